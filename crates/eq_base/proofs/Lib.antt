@@ -1,0 +1,13 @@
+pub mod Lists
+pub mod Trees
+pub mod Positions
+pub mod Replacing
+pub mod Scans
+pub mod Instances
+pub mod Heads
+mod Ends
+mod Reading
+mod Built
+mod Terms
+mod Patterns
+mod Clashing

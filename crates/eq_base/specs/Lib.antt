@@ -1,0 +1,13 @@
+pub mod Tree
+pub mod Pattern
+pub mod Testing
+pub mod Rewriting
+pub mod Rules
+pub mod Meeting
+pub mod Cells
+pub mod Building
+pub mod View
+pub mod Storing
+pub mod Preorder
+pub mod Kinds
+pub mod Vectors

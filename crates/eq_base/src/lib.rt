@@ -1,0 +1,21 @@
+// Terms, patterns and equations.
+#![tactic(auto)]
+
+pub mod flat;
+pub mod head;
+mod kind;
+pub mod meeting;
+pub mod pattern;
+mod preorder;
+pub mod rules;
+pub mod view;
+
+pub use flat::{Flat, FlatMaker, same_tree};
+pub use head::{Cell, Head, NoMemory};
+pub use meeting::{SymbolClass, clash, is_in_class, meets};
+pub use pattern::{Pattern, PatternMaker};
+pub use rules::{Equation, Op, Origin, Right, Rules};
+pub use view::TermView;
+
+#[cfg(test)]
+mod tests;

@@ -1,0 +1,117 @@
+// Equations, and lists of them.
+ghost use Rattle.std.specs.Prelude.{◌≡◌, ◌<◌, [], ◌∷◌, ◌++◌, length, OnOk, OnErr, slice_get, Some};
+
+use crate::head::NoMemory;
+use crate::pattern::Pattern;
+use std::alloc::Global;
+use std::marker::Model;
+
+/// A built-in operation. All take two operands but `LengthStr`, which takes one.
+#[derive(Clone, Copy, PartialEq, Eq, Debug)]
+pub enum Op {
+    /// The sum of two numerals.
+    AddInt,
+    /// The difference of two numerals.
+    SubInt,
+    /// The product of two numerals.
+    MultInt,
+    /// The quotient of two numerals.
+    DivInt,
+    /// The remainder of two numerals.
+    ModInt,
+    /// Whether two numerals are the same.
+    EquInt,
+    /// Whether a numeral is less than another.
+    LessInt,
+    /// Whether two atoms are the same.
+    EquAtom,
+    /// Whether two strings are the same.
+    EquStr,
+    /// Two strings, one after the other.
+    ConcatStr,
+    /// The length of a string.
+    LengthStr,
+}
+
+/// Where in a file an equation comes from.
+#[derive(Clone, Copy, PartialEq, Eq, Debug)]
+pub struct Origin {
+    /// The number of the item, counted from 1.
+    pub item: u32,
+    /// Which of the item's equations it is, counted from 1, or 0 where the item gives only one.
+    pub part: u32,
+}
+
+/// A right side.
+#[derive(Drop)]
+pub enum Right {
+    /// A pattern over the variables of the left side.
+    Tree(Pattern),
+    /// The value of an operation.
+    Schema(Op),
+}
+
+/// An equation, used from left to right.
+#[derive(Drop)]
+pub struct Equation {
+    /// What it rewrites.
+    pub left: Pattern,
+    /// What it puts there.
+    pub right: Right,
+    /// Where it comes from.
+    pub origin: Origin,
+}
+
+/// A list of equations.
+#[derive(Drop)]
+pub struct Rules {
+    equations: Vec<Equation>,
+}
+
+impl Model for Rules {
+    ghost use Rattle.std.specs.Prelude.{List};
+    ghost use Rattle.std.specs.Coded.{coded_list};
+    ghost use Rattle.eq_base.specs.contracts.rules.Equation as equation_type;
+    ghost use Rattle.eq_base.specs.declared.rules.Equation.{Equation};
+
+    ghost Value = { List Equation };
+
+    ghost coded = { coded_list equation_type.the_row.coded };
+
+    ghost view = { λ r. r.equations.items };
+}
+
+impl Rules {
+    /// No equations. It takes no memory.
+    pub fn new(alloc: Global) -> Rules
+        ensures { result ≡ [] }
+    {
+        Rules {
+            equations: Vec::new(alloc),
+        }
+    }
+
+    /// Adds an equation at the end. Where there is no memory the equation is dropped.
+    pub fn push(&mut self, equation: Equation) -> Result<(), NoMemory>
+        ensures ok { OnOk result (self.new ≡ self.old ++ equation ∷ []) }
+        ensures err { OnErr result (self.new ≡ self.old) }
+    {
+        self.equations.push(equation)?;
+        Ok(())
+    }
+
+    /// The number of equations.
+    pub fn len(&self) -> usize
+        ensures { result ≡ length self.now }
+    {
+        self.equations.len()
+    }
+
+    /// The equation with a number, counted from 0.
+    pub fn equation(&self, number: usize) -> &Equation
+        requires { number < length self.now }
+        ensures { slice_get self.now number ≡ Some result.now }
+    {
+        &self.equations[number]
+    }
+}

@@ -1,0 +1,30 @@
+use crate::{Cell, Flat, FlatMaker, Head, NoMemory, Pattern, PatternMaker, same_tree};
+use std::alloc::Global;
+use std::test::Fail;
+
+// The term `f(a, 7)`, where f and a are the symbols 2 and 3.
+fn small_term(alloc: Global) -> Result<Flat, NoMemory> {
+    let mut maker = FlatMaker::new(alloc);
+    maker.push_cell(Head::Symbol(2), 2)?;
+    maker.push_cell(Head::Symbol(3), 0)?;
+    maker.push_cell(Head::Numeral(7), 0)?;
+    Ok(maker.finish())
+}
+
+// The pattern `f(x, y)`.
+fn small_pattern(alloc: Global) -> Result<Pattern, NoMemory> {
+    let mut maker = PatternMaker::new(alloc);
+    maker.push_cell(Cell::Head(Head::Symbol(2), 2))?;
+    maker.push_cell(Cell::Var(0))?;
+    maker.push_cell(Cell::Var(1))?;
+    Ok(maker.finish())
+}
+
+#[test]
+fn makers_succeed_with_memory(rt: HostRuntime) -> Result<(), Fail> {
+    let one = small_term(rt.alloc())?;
+    let other = small_term(rt.alloc())?;
+    assert!(rt; same_tree(&one, &other));
+    assert_eq!(rt; small_pattern(rt.alloc())?.len(), 3);
+    Ok(())
+}
