@@ -1,0 +1,12 @@
+pub mod Digits
+pub mod Places
+pub mod Numerals
+pub mod Readings
+pub mod Sequences
+pub mod Marks
+pub mod Parts
+pub mod Lists
+pub mod Answers
+pub mod PlainAnswers
+pub mod ListAnswers
+pub mod OneTree

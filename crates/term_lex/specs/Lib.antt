@@ -1,0 +1,5 @@
+pub mod Bytes
+pub mod Tokens
+pub mod Numerals
+pub mod Lexemes
+pub mod Parts

@@ -1,0 +1,71 @@
+use crate::token::TokenKind;
+
+/// What is wrong with a text.
+#[derive(Clone, Copy, Debug, PartialEq, Eq)]
+pub enum FaultKind {
+    /// A byte begins no token, or is no element of a string.
+    BadByte,
+    /// A string has no closing quote on its line.
+    OpenString,
+    /// A backslash begins no escape.
+    BadEscape,
+    /// A numeral lies outside -2^127 to 2^127 - 1.
+    NumeralPast,
+    /// A name has more than 255 bytes.
+    NameLong,
+    /// The value of a string has 65,536 bytes or more.
+    StringLong,
+    /// A token cannot stand in its place.
+    Expected {
+        /// What kind of token it is.
+        found: TokenKind,
+    },
+    /// The text ends where more is needed.
+    Unended,
+    /// A name is declared or included already.
+    Twice,
+    /// An arity lies outside 0 to 255.
+    ArityPast,
+    /// A name is no class of symbols.
+    UnknownClass,
+    /// A name is not declared.
+    Unknown,
+    /// A name has another number of arguments than was declared.
+    WrongArity {
+        /// How many arguments were declared.
+        declared: u8,
+        /// How many arguments stand there.
+        found: usize,
+    },
+    /// The class of a literal or of a qualifier is not included.
+    NotIncluded,
+    /// The file has more than 2^24 bytes.
+    FileLong,
+    /// The file has more than 2,048 written equations.
+    EquationsPast,
+    /// A name is no class of equations.
+    UnknownEquationClass,
+    /// A left side is no application of a symbol.
+    LeftNotApplication,
+    /// A variable is listed already or is a declared symbol.
+    VariableTwice,
+    /// A qualified name is no variable.
+    QualifiedUnknown,
+    /// A side of an equation has too many cells.
+    SideLong,
+    /// A class of equations lacks its symbol or a class of symbols.
+    SchemaNeeds,
+    /// A variable is qualified already in the equation.
+    QualifiedTwice,
+    /// The file uses a part of the language that this version does not take.
+    NotYet,
+}
+
+/// A fault and the byte at which it stands.
+#[derive(Clone, Copy, Debug, PartialEq, Eq)]
+pub struct Fault {
+    /// What is wrong.
+    pub kind: FaultKind,
+    /// Where, in bytes counted from 0.
+    pub byte: usize,
+}

@@ -1,0 +1,17 @@
+//! Tokens: the words of a text, with their places and the faults of their spelling.
+#![tactic(auto)]
+
+mod fault;
+mod numeral;
+mod scan;
+mod syntax;
+mod token;
+
+pub use fault::{Fault, FaultKind};
+pub use numeral::numeral_value;
+pub use scan::next_token;
+pub use syntax::Syntax;
+pub use token::{Token, TokenKind};
+
+#[cfg(test)]
+mod tests;

@@ -1,0 +1,6 @@
+/// A notation of terms.
+#[derive(Clone, Copy, Debug, PartialEq, Eq)]
+pub enum Syntax {
+    /// A name, with its arguments in round brackets and commas between them.
+    Standmath,
+}
