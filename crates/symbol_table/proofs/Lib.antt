@@ -1,0 +1,4 @@
+pub mod Declarations
+mod Places
+mod LookUps
+mod Pushed

@@ -1,0 +1,4 @@
+pub mod Table
+pub mod Refusing
+pub mod Variables
+pub mod Entries
