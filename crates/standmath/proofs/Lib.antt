@@ -1,0 +1,10 @@
+pub mod Terms
+pub mod Continuations
+pub mod Steps
+pub mod Counting
+pub mod Outlines
+pub mod Reached
+pub mod Answering
+pub mod Prints
+pub mod Printables
+pub mod Meanings

@@ -1,0 +1,105 @@
+-- What is left to write, before and after an argument.
+use Rattle.std.proofs.Common.{◌≡◌, ◌≢◌, ◌*◌, length, subst, add-one, length-append, ℕ, zero, suc, ◌+◌, ◌<◌, List, [], ◌∷◌, ◌++◌, Some, refl, sym, ◌∙◌, ap, append_assoc, arith, reverse}
+use Rattle.std.proofs.lemmas.List.{reverse-append}
+use Rattle.std.specs.Prelude.{codes}
+use Rattle.eq_base.specs.Tree.{Tree, Forest, node, empty, grow, count, args_of, arity_of, head_of, subtree_at, subtree_in, AllHeadsIn}
+use Rattle.eq_base.specs.Storing.{later_trees}
+use Rattle.eq_base.specs.declared.head.Head.{Head}
+use Rattle.symbol_table.specs.Table.{Table}
+use Rattle.standmath.specs.Printing.{print, head_text, in_brackets, behind_commas, HasText, IsPrintable}
+use Rattle.standmath.specs.Writing.{text_before, text_end, text_behind, text_left, IsOpen, AreOpen}
+use Rattle.eq_base.specs.View.{tree_at, IsArgument}
+use Rattle.standmath.specs.declared.write.Open.{Open}
+
+module _ {A : Type 0} where
+  -- among no trees there is none
+  no_tree : (i : ℕ) (t : Tree A) → subtree_in empty i [] ≡ Some t → ⊥
+  no_tree i t is = cc
+
+  -- the trees from one of them on begin with it
+  later_trees-at : (i : ℕ) (ts : Forest A) (t : Tree A) → subtree_in ts i [] ≡ Some t → later_trees i ts ≡ grow t (later_trees (suc i) ts)
+  later_trees-at i empty t is = absurd (no_tree i t is)
+  later_trees-at zero (grow u us) t is = ap (λ x. grow x us) (cc)
+  later_trees-at (suc i) (grow u us) t is = later_trees-at i us t is
+
+  -- no tree stands behind the last
+  later_trees-count : (n : ℕ) (ts : Forest A) → n ≡ count ts → later_trees n ts ≡ empty
+  later_trees-count zero empty n = refl
+  later_trees-count zero (grow u us) n = absurd (omega arith)
+  later_trees-count (suc n) empty is = refl
+  later_trees-count (suc n) (grow u us) is = later_trees-count n us (omega arith)
+
+-- what stands behind all arguments
+pub text_behind-end : (table : Table) (args : Forest Head) (n : ℕ) → n ≡ count args → text_behind table args n ≡ text_end n
+text_behind-end table empty zero is = refl
+text_behind-end table (grow t ts) zero is = absurd (omega arith)
+text_behind-end table args (suc n) is = ap (λ ts. behind_commas table ts ++ codes ")") (later_trees-count (suc n) args is)
+
+-- what stands behind some arguments: the next one, and what stands behind that
+pub text_behind-next : (table : Table) (args : Forest Head) (i : ℕ) (t : Tree Head) → subtree_in args i [] ≡ Some t → text_behind table args i ≡ text_before i ++ print table t ++ text_behind table args (suc i)
+text_behind-next table args zero t is =
+    ap (in_brackets table) (later_trees-at zero args t is) ∙ append_assoc (codes "(" ++ print table t) (behind_commas table (later_trees 1 args)) (codes ")")
+text_behind-next table args (suc i) t is =
+    ap (λ ts. behind_commas table ts ++ codes ")") (later_trees-at (suc i) args t is)
+    ∙ append_assoc (codes ", " ++ print table t) (behind_commas table (later_trees (suc (suc i)) args)) (codes ")")
+
+-- a print is a head, and what stands behind it
+pub print-head : (table : Table) (t : Tree Head) → print table t ≡ head_text table (head_of t) ++ text_behind table (args_of t) 0
+print-head table (node head args) = refl
+
+pub printable-head : (table : Table) (t : Tree Head) → IsPrintable table t → HasText table (head_of t)
+printable-head table (node head args) printable = printable.0
+
+-- an argument of a term that can be printed can be printed
+printable-among : (table : Table) (args : Forest Head) (i : ℕ) (t : Tree Head) → subtree_in args i [] ≡ Some t → AllHeadsIn (HasText table) args → IsPrintable table t
+printable-among table empty i t is printable = absurd (no_tree i t is)
+printable-among table (grow u us) zero t is printable = let same : u ≡ t = cc in subst (IsPrintable table) same printable.0
+printable-among table (grow u us) (suc i) t is printable = printable-among table us i t is printable.1
+
+pub printable-argument : (table : Table) (t : Tree Head) (i : ℕ) (u : Tree Head) → subtree_at t (i ∷ []) ≡ Some u → IsPrintable table t → IsPrintable table u
+printable-argument table (node head args) i u is printable = printable-among table args i u is printable.1
+
+subtree_at-argument : (t : Tree Head) (i : ℕ) (u : Tree Head) → subtree_at t (i ∷ []) ≡ Some u → subtree_in (args_of t) i [] ≡ Some u
+subtree_at-argument (node head args) i u is = is
+
+module _ (table : Table) (trees : List (Tree Head)) where
+  -- an application whose arguments are all written
+  pub text_left-end : (n i : ℕ) (others : List Open) → i ≡ arity_of (tree_at trees n) → text_left table trees (record { node = n; written = i } ∷ others) ≡ text_end i ++ text_left table trees others
+  text_left-end n i others all = ap (λ x. x ++ text_left table trees others) (text_behind-end table (args_of (tree_at trees n)) i all)
+
+  -- an application with a further argument, before and after the head of the argument
+  pub text_left-argument : (n i m : ℕ) (others : List Open) → subtree_at (tree_at trees n) (i ∷ []) ≡ Some (tree_at trees m)
+      → text_left table trees (record { node = n; written = i } ∷ others)
+      ≡ text_before i ++ head_text table (head_of (tree_at trees m)) ++ text_left table trees (record { node = m; written = 0 } ∷ record { node = n; written = i + 1 } ∷ others)
+  text_left-argument n i m others is =
+      let t = tree_at trees n in
+      let u = tree_at trees m in
+      let behind = text_behind table (args_of t) (suc i) in
+      ap (λ x. x ++ text_left table trees others)
+      (text_behind-next table (args_of t) i u (subtree_at-argument t i u is) ∙ ap (λ p. text_before i ++ p ++ behind) (print-head table u))
+      ∙ simp (append_assoc, add-one)
+
+  -- both applications are open
+  pub both_open : (n i m : ℕ) (others : List Open) → IsOpen table trees (record { node = n; written = i }) → i ≢ arity_of (tree_at trees n) → IsArgument trees n i m → AreOpen table trees others → AreOpen table trees (record { node = m; written = 0 } ∷ record { node = n; written = i + 1 } ∷ others)
+  both_open n i m others here more argument below = (
+    record { there = argument.there; written = omega arith; printable = printable-argument table (tree_at trees n) i (tree_at trees m) argument.stands here.printable },
+    (record { there = here.there; written = let most = here.written in omega arith; printable = here.printable }, below),
+  )
+
+-- what is written is a part of what was left
+pub written-left : (old before after a b whole rest : List ℕ) → before ≡ old ++ a → after ≡ before ++ b → whole ≡ a ++ b ++ rest → after ++ rest ≡ old ++ whole
+written-left old before after a b whole rest one two parts =
+    let left : after ++ rest ≡ ((old ++ a) ++ b) ++ rest = ap (λ x. x ++ rest) (two ∙ ap (λ x. x ++ b) one) in
+    let regroup : ((old ++ a) ++ b) ++ rest ≡ old ++ (a ++ b ++ rest) = simp append_assoc in
+    left ∙ regroup ∙ ap (λ x. old ++ x) (sym parts)
+
+some_before : (i : ℕ) → 0 < length (text_before i)
+some_before zero = omega arith
+some_before (suc i) = omega arith
+
+pub fewer_left : (i n : ℕ) (b whole rest : List ℕ) → whole ≡ text_before i ++ b ++ rest → 2 * length rest + suc (suc n) < 2 * length whole + suc n
+fewer_left i n b whole rest parts = omega (arith, some_before i, ap length parts, length-append (text_before i ++ b) rest, length-append (text_before i) b)
+
+pub reverse-two : {A : Type 0} (xs ys zs : List A) (a b : A) → ys ≡ xs ++ a ∷ [] → zs ≡ ys ++ b ∷ [] → reverse zs ≡ b ∷ a ∷ reverse xs
+reverse-two xs ys zs a b one two =
+    ap reverse two ∙ reverse-append ys (b ∷ []) ∙ ap (λ l. b ∷ l) (ap reverse one ∙ reverse-append xs (a ∷ []))

@@ -1,0 +1,64 @@
+use Rattle.std.specs.Prelude.{IfErr}
+use Rattle.standmath.specs.Answering.{IfRefused}
+use Rattle.standmath.specs.Refusing.{RefusesCell, IsFirstRefused}
+use Rattle.standmath.proofs.Answering.{refused_as}
+use Rattle.std.proofs.Common.{Err, rules, ◌≡◌, ◌+◌, ◌<◌, [], take, get_or, length, map, arith, sym, ◌∙◌, ap, subst}
+use Rattle.std.proofs.lemmas.List.{length-map, take_all}
+use Rattle.eq_base.specs.Pattern.{fixed}
+use Rattle.term_lex.specs.declared.token.TokenKind.TheVariants.{Name}
+use Rattle.term_lex.specs.Lexemes.{lexeme}
+use Rattle.standmath.specs.declared.mentions.Mention.{Mention}
+use Rattle.standmath.specs.Meaning.{MeansCell}
+use Rattle.standmath.specs.Mentions.{seen}
+use Rattle.standmath.specs.Cells.{MeanCells, ground_cell}
+use Rattle.standmath.proofs.Meanings.{first_refused, more_missing_ground, no_more_ground, one_more_head, ground_cells}
+use Rattle.standmath.proofs.read.term_of.Goals as goal
+
+pub push_cell-requires-clause-missing : goal.push_cell-requires-clause-missing
+push_cell-requires-clause-missing c =
+    let lt : c.loop-mention.mention-index < length (map (seen c.args.text.now) c.args.mentions.now) = omega (arith, length-map c.args.mentions.now (seen c.args.text.now)) in
+    more_missing_ground c.args.symbols.now [] c.requires.outline.0 _ c.requires.outline.1 c.loop-mention.mention-index c.loop-mention.maker c.loop-mention.invariant.means lt
+
+pub loop-mention-preserved : goal.loop-mention-preserved
+loop-mention-preserved c =
+    let text = c.args.text.now in
+    let mentions = c.args.mentions.now in
+    let i = c.loop-mention.mention-index in
+    let d : Mention = record { token = record { kind = Name; from = 0; to = 0 }; args = 0 } in
+    let m = get_or mentions i d in
+    let ok = c.in_ok-head.ensures.ok in
+    let means : MeansCell c.args.symbols.now [] (lexeme text m.token) m.args (fixed c.in_ok-head.head) = subst (λ t. MeansCell t [] (lexeme text m.token) m.args (fixed c.in_ok-head.head)) c.loop-mention.invariant.unchanged ok.0 in
+    let more = one_more_head c.args.symbols.now [] text mentions i d c.loop-mention-test.true c.loop-mention.maker c.in_ok-head.head c.in_ok-head.arity c.loop-mention.invariant.means means ok.1 in
+    record {
+      unchanged = c.in_ok-head.ensures.unchanged ∙ c.loop-mention.invariant.unchanged;
+      means = subst (λ cs. MeanCells c.args.symbols.now [] (take (i + 1) (map (seen text) mentions)) (map ground_cell cs)) (sym c.in_ok-push_cell.ensures.ok) more;
+    }
+
+-- all of the mentions have been taken
+pub finish-requires : goal.finish-requires
+finish-requires c =
+    let xs = map (seen c.args.text.now) c.args.mentions.now in
+    let all = take_all c.loop-mention.mention-index xs (omega (arith, length-map c.args.mentions.now (seen c.args.text.now))) in
+    no_more_ground c.args.symbols.now [] c.requires.outline.0 xs c.requires.outline.1 c.loop-mention.maker (subst (λ l. MeanCells c.args.symbols.now [] l (map ground_cell c.loop-mention.maker)) all c.loop-mention.invariant.means)
+
+pub returns-clause-ok : goal.returns-clause-ok
+returns-clause-ok c =
+    let xs = map (seen c.args.text.now) c.args.mentions.now in
+    let all = take_all c.loop-mention.mention-index xs (omega (arith, length-map c.args.mentions.now (seen c.args.text.now))) in
+    let whole = subst (λ l. MeanCells c.args.symbols.now [] l (map ground_cell c.loop-mention.maker)) all c.loop-mention.invariant.means in
+    subst (MeanCells c.args.symbols.now [] xs) (sym (ground_cells c.finish.result ∙ ap (map ground_cell) c.finish.ensures)) whole
+
+-- the mention at hand is the first that means nothing
+pub returns-in_err-head-clause-refused : goal.returns-in_err-head-clause-refused
+returns-in_err-head-clause-refused c =
+    let table = c.args.symbols.now in
+    let text = c.args.text.now in
+    let mentions = c.args.mentions.now in
+    let i = c.loop-mention.mention-index in
+    let d : Mention = record { token = record { kind = Name; from = 0; to = 0 }; args = 0 } in
+    let m = get_or mentions i d in
+    let same : c.from_residual.result ≡ Err c.in_err-head.field-0.0 = search rules in
+    let why = refused_as (λ f. RefusesCell c.loop-mention.symbols [] (lexeme text m.token) m.args f.kind × (f.byte ≡ m.token.from)) (IsFirstRefused table [] (map (seen text) mentions))
+    (λ f h. first_refused table [] text mentions i d c.loop-mention-test.true (map ground_cell c.loop-mention.maker) f c.loop-mention.invariant.means (subst (λ t. RefusesCell t [] (lexeme text m.token) m.args f.kind) c.loop-mention.invariant.unchanged h.0) h.1)
+    c.in_err-head.field-0.0 c.in_err-head.ensures.refused in
+    subst (λ r. IfErr r (IfRefused (IsFirstRefused table [] (map (seen text) mentions)))) (sym same) why

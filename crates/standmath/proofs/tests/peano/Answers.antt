@@ -1,0 +1,15 @@
+use Rattle.std.proofs.Common.{length, ap, arith}
+use Rattle.symbol_table.proofs.Declarations.{length-declare}
+use Rattle.standmath.proofs.tests.peano.Goals as goal
+
+pub loop-name-init : goal.loop-name-init
+loop-name-init g c = omega (arith, ap length c.new-symbols.ensures)
+
+pub declare-requires : goal.declare-requires
+declare-requires g c = omega (arith, c.loop-name.invariant, c.loop-name.auto.name-index-end)
+
+pub loop-name-preserved : goal.loop-name-preserved
+loop-name-preserved g c = omega (arith, length-declare _ _ _ _ _ c.declare.ensures.ok c.declare.ensures.err)
+
+pub add-requires : goal.add-requires
+add-requires g c = omega (arith, ap length c.new-variables.ensures)

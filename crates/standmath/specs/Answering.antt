@@ -1,0 +1,20 @@
+-- What a reader answered, where memory may have run out.
+use Rattle.std.specs.Prelude.{◌≡◌, ℕ, Result, Ok, Err}
+use Rattle.term_lex.specs.declared.fault.Fault.{Fault}
+use Rattle.standmath.specs.declared.error.ReadError.{ReadError}
+use Rattle.standmath.specs.declared.error.ReadError.TheVariants.{Refused, NoMemory}
+
+-- P of the fault, where there is one
+abbrev pub IfRefused : (Fault → Type 0) → ReadError → Type 0
+IfRefused P (Refused fault) = P fault
+IfRefused P NoMemory = Unit {0}
+
+-- the answer is right, unless memory ran out
+abbrev pub AnswersRight : (Result ℕ Fault → Type 0) → Result ℕ ReadError → Type 0
+AnswersRight IsRight (Ok end) = IsRight (Ok end)
+AnswersRight IsRight (Err e) = IfRefused (λ fault. IsRight (Err fault)) e
+
+-- the answer is this one, unless memory ran out
+abbrev pub AnswersAs : Result ℕ Fault → Result ℕ ReadError → Type 0
+AnswersAs answer (Ok end) = answer ≡ Ok end
+AnswersAs answer (Err e) = IfRefused (λ fault. answer ≡ Err fault) e

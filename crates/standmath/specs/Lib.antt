@@ -1,0 +1,10 @@
+pub mod Terms
+pub mod Meaning
+pub mod Reading
+pub mod Refusing
+pub mod Answering
+pub mod Steps
+pub mod Mentions
+pub mod Printing
+pub mod Writing
+pub mod Cells

@@ -1,0 +1,79 @@
+ghost use Rattle.std.specs.Prelude.{◌≡◌, ◌≤◌, ℕ, Result, length, ◌&&◌, IfOk, IfErr};
+ghost use Rattle.term_lex.specs.declared.fault.Fault.{Fault};
+ghost use Rattle.term_lex.specs.Lexemes.{IsAnswer, IsFirstFault, Plainly, misplaced};
+ghost use Rattle.standmath.specs.Terms.{IsSomeTerm};
+ghost use Rattle.standmath.specs.Steps.{ends_term};
+ghost use Rattle.standmath.specs.Answering.{IfRefused, AnswersRight, AnswersAs};
+ghost use Rattle.standmath.specs.Mentions.{is_closed, Mentioned};
+
+use crate::error::ReadError;
+use crate::mentions::{Mention, Mentions};
+use crate::place::Place;
+use std::alloc::Global;
+use term_lex::{Fault, FaultKind, Token, TokenKind, next_token};
+
+/// The fault of a token that cannot stand in its place.
+pub fn misplaced(token: Token) -> Fault
+    ensures { result ≡ misplaced token }
+{
+    let kind = match token.kind {
+        TokenKind::End => FaultKind::Unended,
+        found => FaultKind::Expected { found },
+    };
+    Fault {
+        kind,
+        byte: token.from,
+    }
+}
+
+/// Whether the tokens so far are a whole term.
+fn is_whole(met: &Mentions, place: Place) -> bool
+    ensures { result ≡ (is_closed met.now.open_heads && ends_term place) }
+{
+    met.is_closed() && place.ends_term()
+}
+
+/// The names and literals of the term that begins at `at`, and the place after it, or the first fault of its reading.
+pub fn scan_term(alloc: Global, text: &[u8], at: usize) -> Result<(Vec<Mention>, usize), ReadError>
+    requires { at ≤ length text.now }
+    ensures ok { IfOk result (λ x. Mentioned text.now at x.0.items x.1) }
+    ensures err { IfErr result (IfRefused (IsFirstFault Plainly IsSomeTerm text.now at)) }
+{
+    let mut met = Mentions::new(alloc);
+    let mut place = Place::Term;
+    let mut end = at;
+    'tokens: loop {
+        match next_token(text, end) {
+            Ok(token) => match place.step(token.kind, !met.is_closed()) {
+                Some(next) => {
+                    met.take(token)?;
+                    place = next;
+                    end = token.to;
+                }
+                None if is_whole(&met, place) => return Ok((met.finish(), end)),
+                None => return Err(ReadError::Refused(misplaced(token))),
+            },
+            Err(_) if is_whole(&met, place) => return Ok((met.finish(), end)),
+            Err(fault) => return Err(ReadError::Refused(fault)),
+        }
+    }
+}
+
+/// What `skip_term` answers.
+fn skip(alloc: Global, text: &[u8], at: usize) -> Result<usize, ReadError>
+    requires { at ≤ length text.now }
+    ensures { AnswersRight (IsAnswer IsSomeTerm text.now at) result }
+{
+    let (_, end) = scan_term(alloc, text, at)?;
+    Ok(end)
+}
+
+/// The place after the term that begins at `at`, or the first fault of its reading. The token after the term is no part
+/// of it. Linear time, and memory for its names.
+pub fn skip_term(alloc: Global, text: &[u8], at: usize) -> Result<usize, ReadError>
+    requires { at ≤ length text.now }
+    ensures answer { AnswersRight (IsAnswer IsSomeTerm text.now at) result }
+    ensures only { (other : Result ℕ Fault) → IsAnswer IsSomeTerm text.now at other → AnswersAs other result }
+{
+    skip(alloc, text, at)
+}
