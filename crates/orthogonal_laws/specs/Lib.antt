@@ -1,0 +1,6 @@
+pub mod Plain
+pub mod Next
+pub mod Run
+pub mod Matching
+pub mod Replacing
+pub mod Scanning
