@@ -1,0 +1,35 @@
+-- From the line of a text's one term to what the text's answering leaves.
+use Rattle.std.proofs.Common.{◌≡◌, ◌<◌, length, ℕ, List, [], ◌∷◌, refl, sym, ◌∙◌, append-nil, inl, inr, arith}
+use Rattle.eq_base.specs.Tree.{Tree, node, subtrees}
+use Rattle.eq_base.specs.View.{tree_at}
+use Rattle.eq_base.specs.declared.head.Head.{Head}
+use Rattle.ei_program.specs.declared.stop.Stop.TheVariants.{NoMemory, ReadFailed, WriteFailed}
+use Rattle.ei_program.specs.declared.outcome.Outcome.{Outcome}
+use Rattle.ei_program.specs.declared.outcome.Outcome.TheVariants.{Answered, Questions, BadWords, FileRefused, Broken, TermRefused, Stopped}
+use Rattle.ei_program.specs.Definitions.{Definitions}
+use Rattle.ei_program.specs.Input.{Holds}
+use Rattle.ei_program.specs.Lines.{ended}
+use Rattle.ei_program.specs.Answering.{LineLeft}
+use Rattle.ei_program.specs.Run.{TextLeft}
+
+-- the first node of a tree is the tree
+pub first_node : (t : Tree Head) → tree_at (subtrees t) 0 ≡ t
+first_node (node h args) = refl
+
+pub some_node : (t : Tree Head) → 0 < length (subtrees t)
+some_node (node h args) = omega arith
+
+-- what the line of the one term leaves is what its text leaves
+pub line_is_text : (d : Definitions) (text : List ℕ) (t : Tree Head) (outcome : Outcome) (written : List ℕ) → Holds d.table text (t ∷ []) → LineLeft d t outcome written → TextLeft d text outcome written
+line_is_text d text t Answered written h l =
+    (l.0 ∷ [], record { terms = t ∷ []; reads = h; fit = (l.1, tt) }, l.2 ∙ sym (append-nil (ended l.0)))
+line_is_text d text t Questions written h l =
+    (l.0 ∷ [], record { answers = record { terms = t ∷ []; reads = h; fit = (inr l.1, tt) }; some = inl l.1 }, l.2 ∙ sym (append-nil (ended l.0)))
+line_is_text d text t (Stopped WriteFailed) written h l =
+    (l.0 ∷ [], l.1, record { terms = t ∷ []; last = h.last; reads = h.reads; fit = (l.2, tt) }, l.3 ∙ sym (append-nil (ended l.0)))
+line_is_text d text t (Stopped NoMemory) written h l = absurd l
+line_is_text d text t (Stopped ReadFailed) written h l = absurd l
+line_is_text d text t BadWords written h l = absurd l
+line_is_text d text t FileRefused written h l = absurd l
+line_is_text d text t Broken written h l = absurd l
+line_is_text d text t TermRefused written h l = absurd l

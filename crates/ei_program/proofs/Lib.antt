@@ -1,0 +1,5 @@
+mod Answering
+mod Cutting
+mod Refusing
+mod PlainReadings
+mod Printable

@@ -1,0 +1,7 @@
+use Rattle.std.proofs.Common.{rules}
+use Rattle.std.specs.List.{IsDistinct}
+use Rattle.ei_program.proofs.tests.files.Goals as goal
+
+pub new-requires-clause-distinct : goal.new-requires-clause-distinct
+unfolding IsDistinct
+new-requires-clause-distinct c = rw c.in_ok-list.ensures.items (search rules)

@@ -1,0 +1,35 @@
+-- The line of a term, and what its writing leaves.
+use Rattle.std.specs.Prelude.{◌≡◌, ◌≢◌, ℕ, ◌≤◌, Bool, true, false, List, ◌++◌}
+use Rattle.eq_base.specs.Tree.{Tree}
+use Rattle.eq_base.specs.declared.head.Head.{Head}
+use Rattle.eq_ports.specs.Causes.{Rose}
+use Rattle.ei_program.specs.declared.answer.Line.{Line}
+use Rattle.ei_program.specs.declared.stop.Stop.TheVariants.{ReadFailed, WriteFailed}
+use Rattle.ei_program.specs.declared.outcome.Outcome.{Outcome}
+use Rattle.ei_program.specs.declared.outcome.Outcome.TheVariants.{Answered, Questions, BadWords, Stopped}
+use Rattle.ei_program.specs.Definitions.{Definitions}
+use Rattle.ei_program.specs.Lines.{IsNormalForm, IsSpent, IsLine, ended}
+
+-- the line of its kind
+abbrev pub IsLineBy : Bool → Definitions → Tree Head → List ℕ → Type 0
+IsLineBy true d t line = IsNormalForm d t line
+IsLineBy false d t line = IsSpent d t line
+
+-- the line answers the term
+abbrev pub IsLineOf : Definitions → Tree Head → Line → Type 0
+IsLineOf d t l = (line : List ℕ) × IsLineBy l.is_normal d t line × (l.text.items ≡ ended line)
+
+-- what was written of the line, by the outcome
+abbrev pub LineLeft : Definitions → Tree Head → Outcome → List ℕ → Type 0
+LineLeft d t Answered written = (line : List ℕ) × IsNormalForm d t line × (written ≡ ended line)
+LineLeft d t Questions written = (line : List ℕ) × IsSpent d t line × (written ≡ ended line)
+LineLeft d t (Stopped WriteFailed) written = (line : List ℕ) × (back : List ℕ) × IsLine d t line × (written ++ back ≡ ended line)
+LineLeft d t outcome written = ⊥
+
+-- the fault count of what is written rose where a write failed, and else it is as before; nothing is read, and the words are not looked at
+pub record IsWriteOutcome (before now : ℕ) (outcome : Outcome) : Type 0 where
+  pub later : before ≤ now
+  pub failed : outcome ≡ Stopped WriteFailed → Rose before now
+  pub steady : outcome ≢ Stopped WriteFailed → now ≡ before
+  pub no_read : outcome ≢ Stopped ReadFailed
+  pub no_words : outcome ≢ BadWords

@@ -1,0 +1,17 @@
+pub mod Statuses
+pub mod Outcomes
+pub mod Words
+pub mod Taking
+pub mod PlainErrors
+pub mod PlainGrammar
+pub mod PlainFile
+pub mod PlainReading
+pub mod Definitions
+pub mod Input
+pub mod Lines
+pub mod Run
+pub mod Telling
+pub mod ReadInput
+pub mod Answering
+pub mod Loading
+pub mod Cutting

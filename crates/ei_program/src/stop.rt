@@ -1,0 +1,7 @@
+/// Why a run stops before its end.
+#[derive(Clone, Copy, Debug, PartialEq, Eq)]
+pub enum Stop {
+    NoMemory,
+    ReadFailed,
+    WriteFailed,
+}

@@ -1,0 +1,59 @@
+// The top call: a run, and what is told of it.
+ghost use Rattle.std.specs.Prelude.{◌≡◌, ◌≢◌, ◌⊎◌, ◌≤◌, ◌↔◌, ℕ, List, Option, Some, map, string_bytes};
+ghost use Rattle.eq_ports.specs.Causes.{Rose};
+ghost use Rattle.ei_program.specs.Words.{NamesFile};
+ghost use Rattle.ei_program.specs.Telling.{IsTold, IsRun};
+
+use crate::outcome::Outcome;
+use crate::run::run;
+use crate::status::Status;
+use crate::stop::Stop;
+use eq_ports::{Files, Sink, Source, write_whole};
+use std::alloc::Global;
+
+/// Tells of an outcome on the errors.
+fn tell<E: Sink>(outcome: Outcome, errors: &mut E) -> Status
+    ensures told { IsTold outcome (E.taken errors.old) (E.taken errors.new) result }
+    ensures words { (result ≡ Status.Words) ↔ (outcome ≡ Outcome.BadWords) }
+    ensures later { E.faults errors.old ≤ E.faults errors.new }
+    ensures write { result ≡ Status.WriteFailed → outcome ≢ Outcome.Stopped Stop.WriteFailed → Rose (E.faults errors.old) (E.faults errors.new) }
+    ensures steady { result ≢ Status.WriteFailed → E.faults errors.new ≡ E.faults errors.old }
+{
+    match write_whole(errors, outcome.message().as_bytes()) {
+        Ok(()) => outcome.status(),
+        Err(_) => Status::WriteFailed,
+    }
+}
+
+/// Answers the term of the input by the equations of the file that the words name: the print of a normal form on the output, or
+/// `? spent 1000000`, as one line.
+pub fn ei<F: Files, I: Source, O: Sink, E: Sink>(
+    alloc: Global,
+    words: Vec<String>,
+    files: &mut F,
+    input: &mut I,
+    output: &mut O,
+    errors: &mut E,
+) -> Status
+    // What stands on the output and the errors, by the status, in every run: a printed line is the print of a normal
+    // term that is derivable from the term that was read, by the equations that were read.
+    ensures leaves { (named : List ℕ → Option (List ℕ)) (bytes : List ℕ) → F.named files.old ≡ Some named → I.left input.old ≡ Some bytes
+        → IsRun (record { words = map string_bytes words.items; named = named; input = bytes }) (I.left input.new)
+        (O.taken output.old) (O.taken output.new) (E.taken errors.old) (E.taken errors.new) result }
+
+    // The words are refused exactly where they are no command line.
+    ensures words { (result ≡ Status.Words) ↔ ((name : List ℕ) → NamesFile (map string_bytes words.items) name → ⊥) }
+
+    // A failure is told only where a fault count rose.
+    ensures read { result ≡ Status.ReadFailed → Rose (F.faults files.old) (F.faults files.new) ⊎ Rose (I.faults input.old) (I.faults input.new) }
+    ensures write { result ≡ Status.WriteFailed → Rose (O.faults output.old) (O.faults output.new) ⊎ Rose (E.faults errors.old) (E.faults errors.new) }
+
+    // No failure is passed over: where a count became greater, the status is 7, 8 or 1.
+    ensures files_steady { result ≢ Status.ReadFailed → result ≢ Status.WriteFailed → result ≢ Status.NoMemory → F.faults files.new ≡ F.faults files.old }
+    ensures input_steady { result ≢ Status.ReadFailed → result ≢ Status.WriteFailed → result ≢ Status.NoMemory → I.faults input.new ≡ I.faults input.old }
+    ensures output_steady { result ≢ Status.WriteFailed → O.faults output.new ≡ O.faults output.old }
+    ensures errors_steady { result ≢ Status.WriteFailed → E.faults errors.new ≡ E.faults errors.old }
+{
+    let outcome = run(alloc, &words, files, input, output);
+    tell(outcome, errors)
+}
