@@ -1,0 +1,5 @@
+Symbols a: 0; b: 0; c: 0; f: 2; loop: 0.
+For all x:
+  f(x, a) = c;
+  b = a;
+  loop = loop.
