@@ -5,6 +5,7 @@ pub mod Replacing
 pub mod Scans
 pub mod Instances
 pub mod Heads
+pub mod Decimals
 mod Ends
 mod Reading
 mod Built

@@ -11,3 +11,4 @@ pub mod Storing
 pub mod Preorder
 pub mod Kinds
 pub mod Vectors
+pub mod Decimal

@@ -1,4 +1,6 @@
-use crate::{Cell, Flat, FlatMaker, Head, NoMemory, Pattern, PatternMaker, same_tree};
+use crate::{
+    Cell, Flat, FlatMaker, Head, NoMemory, Pattern, PatternMaker, push_numeral, same_tree,
+};
 use std::alloc::Global;
 use std::test::Fail;
 
@@ -26,5 +28,23 @@ fn makers_succeed_with_memory(rt: HostRuntime) -> Result<(), Fail> {
     let other = small_term(rt.alloc())?;
     assert!(rt; same_tree(&one, &other));
     assert_eq!(rt; small_pattern(rt.alloc())?.len(), 3);
+    Ok(())
+}
+
+#[test]
+fn numerals_are_written_in_decimal(rt: HostRuntime) -> Result<(), Fail> {
+    for (value, want) in [
+        (0, "0"),
+        (7, "7"),
+        (-7, "-7"),
+        (10, "10"),
+        (-10, "-10"),
+        (i128::MAX, "170141183460469231731687303715884105727"),
+        (i128::MIN, "-170141183460469231731687303715884105728"),
+    ] {
+        let mut text = Vec::new(rt.alloc());
+        push_numeral(&mut text, value)?;
+        assert_eq!(rt; text.as_slice(), want.as_bytes());
+    }
     Ok(())
 }
