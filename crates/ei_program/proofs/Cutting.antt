@@ -1,13 +1,14 @@
--- What a cut input leaves, and the outcomes around it.
-use Rattle.std.proofs.Common.{◌≡◌, ℕ, List, ◌++◌, refl, sym, subst}
+-- What an input leaves that was taken to its end or cut, and the outcomes around it.
+use Rattle.std.proofs.Common.{◌≡◌, ℕ, List, [], ◌++◌, inr, refl, sym, ap, ◌∙◌, subst, append-nil}
 use Rattle.std.specs.declared.option.Option.{Option}
 use Rattle.std.specs.declared.option.Option.TheVariants.{None, Some}
-use Rattle.std.specs.Io.KnownBytes.{Consumes}
+use Rattle.std.specs.Io.KnownBytes.{Consumes, IsAtEnd}
 use Rattle.ei_program.specs.declared.stop.Stop.{Stop}
 use Rattle.ei_program.specs.declared.stop.Stop.TheVariants.{NoMemory, ReadFailed, WriteFailed}
 use Rattle.ei_program.specs.declared.outcome.Outcome.{Outcome}
 use Rattle.ei_program.specs.declared.outcome.Outcome.TheVariants.{Answered, Questions, BadWords, FileRefused, Broken, TermRefused, Stopped}
 use Rattle.ei_program.specs.Definitions.{Definitions}
+use Rattle.ei_program.specs.Input.{IsRefused}
 use Rattle.ei_program.specs.Run.{TextLeft, InputLeft, TakenLeft}
 use Rattle.ei_program.specs.Cutting.{IsCut}
 
@@ -39,3 +40,20 @@ module _ (d : Definitions) (input : List ℕ) (left : Option (List ℕ)) (taken 
   cut_leaves (Stopped NoMemory) result written is t = let P = λ (o : Outcome). InputLeft d input left o written in subst P (sym is) (taken_left (Stopped NoMemory) written t)
   cut_leaves (Stopped WriteFailed) result written is t = let P = λ (o : Outcome). InputLeft d input left o written in subst P (sym is) (taken_left (Stopped WriteFailed) written t)
   cut_leaves (Stopped ReadFailed) result written is t = absurd t
+
+  whole_left : taken ≡ input → left ≡ Some [] → (outcome : Outcome) (written : List ℕ) → TextLeft d taken outcome written → InputLeft d input left outcome written
+  whole_left all end Answered written t = (end, subst (λ text. TextLeft d text Answered written) all t)
+  whole_left all end Questions written t = (end, subst (λ text. TextLeft d text Questions written) all t)
+  whole_left all end TermRefused written t = (inr (subst (IsRefused d.table) all t.0), t.1)
+  whole_left all end BadWords written t = absurd t
+  whole_left all end FileRefused written t = absurd t
+  whole_left all end Broken written t = absurd t
+  whole_left all end (Stopped NoMemory) written t = taken_left (Stopped NoMemory) written t
+  whole_left all end (Stopped WriteFailed) written t = taken_left (Stopped WriteFailed) written t
+  whole_left all end (Stopped ReadFailed) written t = absurd t
+
+  -- the terms of the whole input were answered
+  pub whole_leaves : IsAtEnd left → (outcome : Outcome) (written : List ℕ) → TextLeft d taken outcome written → InputLeft d input left outcome written
+  whole_leaves end outcome written t =
+      let none : rest ≡ [] = subst IsAtEnd leaves end in
+      whole_left (sym (parts ∙ ap (λ more. taken ++ more) none ∙ append-nil taken)) (leaves ∙ ap (λ more. Some more) none) outcome written t

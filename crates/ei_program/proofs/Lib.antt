@@ -1,5 +1,6 @@
 mod Answering
 mod Cutting
+mod Growing
 mod Refusing
 mod PlainReadings
 mod Printable

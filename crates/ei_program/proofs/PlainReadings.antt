@@ -1,38 +1,31 @@
 -- The parts of a plain file, one after another, are the file.
-use Rattle.std.proofs.Common.{◌≡◌, ℕ, ◌+◌, List, [], ◌∷◌, ◌++◌, inl, inr, refl, sym, ap, ◌∙◌, subst, append_assoc, append-nil, length, length-append, Ok, ◌<◌, ◌≤◌, ◌^◌, arith}
+use Rattle.std.proofs.Common.{◌≡◌, ℕ, ◌+◌, List, [], ◌∷◌, ◌++◌, inl, inr, refl, sym, ap, ◌∙◌, subst, append_assoc, append-nil, length, length-append, ◌<◌, ◌≤◌, ◌^◌, arith}
 use Rattle.std.specs.Prelude.{codes}
 use Rattle.eq_base.specs.declared.rules.Equation.{Equation}
 use Rattle.term_lex.specs.declared.token.Token.{Token}
 use Rattle.term_lex.specs.declared.token.TokenKind.TheVariants.{Name, Comma, Semicolon, Colon, Dot, End}
-use Rattle.term_lex.specs.Lexemes.{Lexeme, lexeme, with_bytes, lexeme_at}
+use Rattle.term_lex.specs.Lexemes.{Lexeme, lexeme}
 use Rattle.term_lex.specs.Parts.{IsKind, IsWord, One, Then, This, Closed}
-use Rattle.term_lex.proofs.Readings.{scans_append}
-use Rattle.symbol_table.specs.Table.{Table}
+use Rattle.term_lex.proofs.Readings.{lexeme_found, scans_append}
+use Rattle.symbol_table.specs.Table.{Table, no_names, Keeps}
 use Rattle.symbol_table.specs.Variables.{AddsVariable}
 use Rattle.ei_program.specs.PlainGrammar.{File, IsName, IsDeclaration, IsVariables, IsEquation}
-use Rattle.ei_program.specs.PlainFile.{DeclaresAll, AddsAll, MeanEquations, IsPlainFile}
+use Rattle.ei_program.specs.PlainFile.{DeclaresAll, AddsAll, MeansEquation, MeanEquations, IsPlainFile}
 use Rattle.ei_program.specs.PlainReading.{IsNext, IsRead, TakesDeclaration, TakesSymbols, TakesVariables, TakesSomeVariables, TakesEquation, TakesEquations}
-
--- tables with the same symbols
-pub same_table : (one other : Table) → one.declared ≡ other.declared → one ≡ other
-same_table one other same = ap (λ symbols. record { declared = symbols }) same
+use Rattle.ei_program.proofs.Growing.{still_means_equation}
 
 module _ (text : List ℕ) where
-  -- a token with its bytes
-  pub found_lexeme : (at : ℕ) (token : Token) → IsNext text at token → lexeme_at text at ≡ Ok (lexeme text token)
-  found_lexeme at token next = ap (with_bytes text) next.found
-
   pub one_read : (Test : Lexeme → Type 0) (at : ℕ) (token : Token) → IsNext text at token → Test (lexeme text token) → IsRead (One Test) text at token.to
   one_read Test at token next passes = record {
     lexemes = lexeme text token ∷ [];
-    scanned = (found_lexeme at token next, refl);
+    scanned = (lexeme_found text at token next.found, refl);
     sentence = (lexeme text token, refl, passes);
   }
 
   pub this_read : (Test : Lexeme → Type 0) (at : ℕ) (token : Token) → IsNext text at token → Test (lexeme text token) → IsRead (This Test (lexeme text token)) text at token.to
   this_read Test at token next passes = record {
     lexemes = lexeme text token ∷ [];
-    scanned = (found_lexeme at token next, refl);
+    scanned = (lexeme_found text at token next.found, refl);
     sentence = (refl, passes);
   }
 
@@ -162,25 +155,25 @@ module _ (text : List ℕ) where
       read = closed_on (IsKind Semicolon) (IsKind Dot) IsEquation one.sides rest.sides at mid next end one.read semicolon rest.read;
     }
 
-    -- the equation, by its number in the list
-    pub numbered : (symbols : Table) (number : ℕ) (old : List Equation) (e : Equation) (at end : ℕ) → symbols ≡ table → number ≡ 1 + length old
+    -- the equation, by its number in the list and by the table that atoms and texts joined
+    pub numbered : (symbols : Table) (number : ℕ) (old : List Equation) (e : Equation) (at end : ℕ) → Keeps symbols table → number ≡ 1 + length old
         → TakesEquation symbols variables number text at e end → TakesEquation table variables (1 + length old) text at e end
-    numbered symbols number old e at end same count one =
-        subst (λ n. TakesEquation table variables n text at e end) count (subst (λ (t : Table). TakesEquation t variables number text at e end) same one)
+    numbered symbols number old e at end keeps count one = record {
+      sides = one.sides;
+      means = subst (λ n. MeansEquation table variables n one.sides e) count (still_means_equation symbols table keeps variables number one.sides e one.means);
+      read = one.read;
+    }
 
   -- ---- the file
 
-  abbrev none : Table
-  none = record { declared = [] }
-
   -- all its parts are the file
-  pub whole : (empty table final : Table) (no_names variables : List (List ℕ)) (no_rules rules : List Equation) (items header all names sides close end : ℕ)
-      → length text ≤ 2 ^ 24 → empty.declared ≡ [] → no_names ≡ [] → no_rules ≡ []
-      → IsRead (One (IsWord (codes "Symbols"))) text 0 items → TakesSymbols text items empty table header
+  pub whole : (empty declared table : Table) (no_variables variables : List (List ℕ)) (no_rules rules : List Equation) (items header all names sides close end : ℕ)
+      → length text ≤ 2 ^ 24 → empty ≡ no_names → no_variables ≡ [] → no_rules ≡ []
+      → IsRead (One (IsWord (codes "Symbols"))) text 0 items → TakesSymbols text items empty declared header
       → IsRead (One (IsWord (codes "For"))) text header all → IsRead (One (IsWord (codes "all"))) text all names
-      → TakesVariables table text names no_names variables sides → TakesEquations table variables text sides no_rules rules close
-      → final ≡ table → IsRead (One (IsKind End)) text close end → length rules ≤ 2048 → IsPlainFile text final variables rules
-  whole empty table final no_names variables no_rules rules items header all names sides close end short no_symbol no_variable no_equation word s for word_all v e same last few =
+      → TakesVariables declared text names no_variables variables sides → TakesEquations table variables text sides no_rules rules close
+      → Keeps declared table → IsRead (One (IsKind End)) text close end → length rules ≤ 2048 → IsPlainFile text table variables rules
+  whole empty declared table no_variables variables no_rules rules items header all names sides close end short no_symbol no_variable no_equation word s for word_all v e keeps last few =
       let file : File = record { symbols = s.declarations; variables = v.names; equations = e.sides } in
       let read = then_read _ _ 0 items end word (then_read _ _ items header end s.read (then_read _ _ header all end for (then_read _ _ all names end word_all
       (then_read _ _ names sides end v.read (then_read _ _ sides close end e.read last))))) in
@@ -193,11 +186,11 @@ module _ (text : List ℕ) where
         end = end;
         scanned = read.scanned;
         spelled = read.sentence;
-        declares = subst (λ (t : Table). DeclaresAll none s.declarations t) (sym same)
-            (subst (λ (t : Table). DeclaresAll t s.declarations table) (ap (λ ds. record { declared = ds }) no_symbol) s.declare);
-        adds = subst (λ (t : Table). AddsAll t [] v.names variables) (sym same) (subst (λ (vs : List (List ℕ)). AddsAll table vs v.names variables) no_variable v.add);
-        means = subst (λ (t : Table). MeanEquations t variables 1 e.sides rules) (sym same)
-            (subst (λ (es : List Equation). MeanEquations table variables 1 e.sides es) (sym listed)
-            (subst (λ n. MeanEquations table variables n e.sides e.equations) first e.mean));
+        declared = declared;
+        declares = subst (λ (t : Table). DeclaresAll t s.declarations declared) no_symbol s.declare;
+        adds = subst (λ (vs : List (List ℕ)). AddsAll declared vs v.names variables) no_variable v.add;
+        keeps = keeps;
+        means = subst (λ (es : List Equation). MeanEquations table variables 1 e.sides es) (sym listed)
+            (subst (λ n. MeanEquations table variables n e.sides e.equations) first e.mean);
         few = few;
       }

@@ -8,7 +8,7 @@ use Rattle.ei_program.specs.declared.outcome.Outcome.TheVariants.{Answered, Ques
 use Rattle.ei_program.specs.Words.{NamesFile}
 use Rattle.ei_program.specs.Loading.{IsLoaded}
 use Rattle.orthogonal_laws.specs.Plain.{ArePlain}
-use Rattle.ei_program.specs.Definitions.{Definitions, Defines}
+use Rattle.ei_program.specs.Definitions.{Definitions, Defines, Grows}
 use Rattle.ei_program.specs.Run.{Given, HasDefinitions, Leaves, InputLeft}
 
 -- nothing was taken of the input, and nothing written
@@ -28,12 +28,12 @@ has_definitions : (given : Given) (name : List ℕ) (d : Definitions) → NamesF
 has_definitions given name d names f = record { bytes = f.0; file = record { name = name; named = names; found = f.1 }; defines = f.2 }
 
 -- the file is accepted, and the terms of the input were answered
-pub accepted : (given : Given) (name : List ℕ) (d : Definitions) (left : Option (List ℕ)) (outcome : Outcome) (written : List ℕ) → NamesFile given.words name
-    → (file : List ℕ) × (given.named name ≡ Some file) × Defines file d × ArePlain d.equations → InputLeft d given.input left outcome written → Leaves given left outcome written
-accepted given name d left Answered written names f t = inl (d, has_definitions given name d names f, f.3, t)
-accepted given name d left Questions written names f t = inl (d, has_definitions given name d names f, f.3, t)
-accepted given name d left TermRefused written names f t = inl (d, has_definitions given name d names f, f.3, t)
-accepted given name d left (Stopped stop) written names f t = inl (d, has_definitions given name d names f, f.3, t)
-accepted given name d left BadWords written names f t = absurd t.answered
-accepted given name d left FileRefused written names f t = absurd t.answered
-accepted given name d left Broken written names f t = absurd t.answered
+pub accepted : (given : Given) (name : List ℕ) (d e : Definitions) (left : Option (List ℕ)) (outcome : Outcome) (written : List ℕ) → NamesFile given.words name
+    → (file : List ℕ) × (given.named name ≡ Some file) × Defines file d × ArePlain d.equations → Grows d e → InputLeft e given.input left outcome written → Leaves given left outcome written
+accepted given name d e left Answered written names f grows t = inl (d, e, has_definitions given name d names f, f.3, grows, t)
+accepted given name d e left Questions written names f grows t = inl (d, e, has_definitions given name d names f, f.3, grows, t)
+accepted given name d e left TermRefused written names f grows t = inl (d, e, has_definitions given name d names f, f.3, grows, t)
+accepted given name d e left (Stopped stop) written names f grows t = inl (d, e, has_definitions given name d names f, f.3, grows, t)
+accepted given name d e left BadWords written names f grows t = absurd t.answered
+accepted given name d e left FileRefused written names f grows t = absurd t.answered
+accepted given name d e left Broken written names f grows t = absurd t.answered

@@ -1,9 +1,9 @@
 -- What a definitions file gives.
-use Rattle.std.specs.Prelude.{ℕ, List}
+use Rattle.std.specs.Prelude.{◌≡◌, ℕ, List}
 use Rattle.eq_base.specs.Rewriting.{System}
 use Rattle.eq_base.specs.declared.head.Head.{Head}
 use Rattle.eq_base.specs.declared.rules.Equation.{Equation}
-use Rattle.symbol_table.specs.Table.{Table}
+use Rattle.symbol_table.specs.Table.{Table, Keeps}
 use Rattle.orthogonal_laws.specs.Plain.{plain_system, ArePlain}
 use Rattle.ei_program.specs.PlainFile.{IsPlainFile}
 use Rattle.ei_program.specs.declared.plain_file.Plain.{Plain}
@@ -13,6 +13,12 @@ pub record Definitions : Type 0 where
   pub table : Table
   pub variables : List (List ℕ)
   pub equations : List Equation
+
+-- the definitions are the same, but for atoms and texts that may have joined the table
+pub record Grows (old new : Definitions) : Type 0 where
+  pub table : Keeps old.table new.table
+  pub variables : new.variables ≡ old.variables
+  pub equations : new.equations ≡ old.equations
 
 -- rewriting by the equations
 abbrev pub system : Definitions → System Head

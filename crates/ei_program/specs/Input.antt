@@ -4,7 +4,7 @@ use Rattle.eq_base.specs.Tree.{Tree}
 use Rattle.eq_base.specs.declared.head.Head.{Head}
 use Rattle.term_lex.specs.declared.token.Token.{Token}
 use Rattle.term_lex.specs.declared.token.TokenKind.TheVariants.{End}
-use Rattle.term_lex.specs.Tokens.{token_at}
+use Rattle.term_lex.specs.Tokens.{FirstToken}
 use Rattle.symbol_table.specs.Table.{Table}
 use Rattle.term_lex.specs.declared.fault.Fault.{Fault}
 use Rattle.standmath.specs.Reading.{ReadsTerm}
@@ -12,7 +12,7 @@ use Rattle.standmath.specs.Refusing.{RefusesTerm}
 
 -- only blanks and comments stand in the text from the place on
 abbrev pub NothingLeft : List ℕ → ℕ → Type 0
-NothingLeft text place = (t : Token) × (token_at text place ≡ Ok t) × (t.kind ≡ End)
+NothingLeft text place = (t : Token) × FirstToken text place (Ok t) × (t.kind ≡ End)
 
 -- the terms, each with its dot, stand one after another between two places of the text
 abbrev pub Terms : Table → List ℕ → ℕ → List (Tree Head) → ℕ → Type 0

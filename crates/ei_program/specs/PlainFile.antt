@@ -5,9 +5,9 @@ use Rattle.eq_base.specs.Pattern.{PatternCell, fixed}
 use Rattle.eq_base.specs.declared.head.Head.{Head}
 use Rattle.eq_base.specs.declared.rules.Equation.{Equation}
 use Rattle.eq_base.specs.declared.rules.Right.TheVariants as rights
-use Rattle.term_lex.specs.Numerals.{numeral_value}
 use Rattle.term_lex.specs.Lexemes.{Lexeme, Scans}
-use Rattle.symbol_table.specs.Table.{Table, Declares}
+use Rattle.term_lex.specs.Values.{numeral_value}
+use Rattle.symbol_table.specs.Table.{Table, no_names, Declares, Keeps}
 use Rattle.symbol_table.specs.Variables.{AddsVariable}
 use Rattle.standmath.specs.Meaning.{Means}
 use Rattle.ei_program.specs.PlainGrammar.{Declaration, Sides, File, IsFile}
@@ -46,7 +46,7 @@ module _ (table : Table) (variables : List (List ℕ)) where
   MeanEquations number (s ∷ ss) (e ∷ es) = MeansEquation number s e × MeanEquations (number + 1) ss es
   MeanEquations number sides equations = ⊥
 
--- the text is a file of plain equations, which declares this table and these variables and says these equations
+-- the text is a file of plain equations, which declares this table and these variables and says these equations; atoms and texts may have joined the table
 pub record IsPlainFile (text : List ℕ) (table : Table) (variables : List (List ℕ)) (equations : List Equation) : Type 0 where
   pub short : length text ≤ 2 ^ 24
   pub file : File
@@ -54,7 +54,9 @@ pub record IsPlainFile (text : List ℕ) (table : Table) (variables : List (List
   pub end : ℕ
   pub scanned : Scans text 0 lexemes end
   pub spelled : IsFile file lexemes
-  pub declares : DeclaresAll (record { declared = [] }) file.symbols table
-  pub adds : AddsAll table [] file.variables variables
+  pub declared : Table
+  pub declares : DeclaresAll no_names file.symbols declared
+  pub adds : AddsAll declared [] file.variables variables
+  pub keeps : Keeps declared table
   pub means : MeanEquations table variables 1 file.equations equations
   pub few : length equations ≤ 2048

@@ -3,8 +3,8 @@ use Rattle.std.specs.Prelude.{◌≡◌, ℕ, ◌+◌, List, ◌∷◌, ◌++◌
 use Rattle.eq_base.specs.declared.rules.Equation.{Equation}
 use Rattle.term_lex.specs.declared.token.Token.{Token}
 use Rattle.term_lex.specs.declared.token.TokenKind.TheVariants.{Semicolon, Dot}
-use Rattle.term_lex.specs.Tokens.{token_at, IsWithin}
-use Rattle.term_lex.specs.Numerals.{numeral_value}
+use Rattle.term_lex.specs.Tokens.{FirstToken, IsWithin}
+use Rattle.term_lex.specs.Values.{numeral_value}
 use Rattle.term_lex.specs.Lexemes.{Lexeme, Scans}
 use Rattle.term_lex.specs.Parts.{IsKind, Closed}
 use Rattle.symbol_table.specs.Table.{Table, Declares}
@@ -13,7 +13,7 @@ use Rattle.ei_program.specs.PlainFile.{DeclaresAll, AddsAll, MeansEquation, Mean
 
 -- the next token
 pub record IsNext (text : List ℕ) (at : ℕ) (token : Token) : Type 0 where
-  pub found : token_at text at ≡ Ok token
+  pub found : FirstToken text at (Ok token)
   pub within : IsWithin at (length text) token
 
 -- the text from `at` to `end` is a sentence

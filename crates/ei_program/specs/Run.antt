@@ -11,7 +11,7 @@ use Rattle.ei_program.specs.declared.stop.Stop.TheVariants.{NoMemory, ReadFailed
 use Rattle.ei_program.specs.declared.outcome.Outcome.{Outcome}
 use Rattle.ei_program.specs.declared.outcome.Outcome.TheVariants.{Answered, Questions, BadWords, FileRefused, Broken, TermRefused, Stopped}
 use Rattle.ei_program.specs.Words.{NamesFile}
-use Rattle.ei_program.specs.Definitions.{Definitions, Defines}
+use Rattle.ei_program.specs.Definitions.{Definitions, Defines, Grows}
 use Rattle.ei_program.specs.Input.{Terms, Holds, IsRefused}
 use Rattle.ei_program.specs.Lines.{IsNormalForm, IsSpent, IsLine, AreLines, SomeLine, bytes_of}
 
@@ -108,7 +108,7 @@ Leaves given left BadWords written = ((name : List ℕ) → NamesFile given.word
 Leaves given left FileRefused written = ((bytes : List ℕ) × HasFile given bytes) × Untouched given left written
 Leaves given left Broken written = ((d : Definitions) × HasDefinitions given d × (ArePlain d.equations → ⊥)) × Untouched given left written
 Leaves given left outcome written =
-    ((d : Definitions) × HasDefinitions given d × ArePlain d.equations × InputLeft d given.input left outcome written)
+    ((d : Definitions) × (e : Definitions) × HasDefinitions given d × ArePlain d.equations × Grows d e × InputLeft e given.input left outcome written)
     ⊎ (StopsEarly outcome × Untouched given left written)
 
 -- the output grew by what was written

@@ -1,7 +1,7 @@
 // The answering of the terms of a text.
 ghost use Rattle.std.specs.Prelude.{◌≡◌, IfOk};
 ghost use Rattle.standmath.specs.Printing.{IsPrintable};
-ghost use Rattle.ei_program.specs.Definitions.{Definitions, definitions_of, IsAccepted};
+ghost use Rattle.ei_program.specs.Definitions.{Definitions, definitions_of, IsAccepted, Grows};
 ghost use Rattle.ei_program.specs.Run.{TextLeft, LeavesOn};
 ghost use Rattle.ei_program.specs.Answering.{IsLineOf, IsWriteOutcome, LineLeft};
 ghost use Rattle.eq_base.specs.Tree.{Tree};
@@ -77,7 +77,8 @@ pub fn answer_text<O: Sink>(
     output: &mut O,
 ) -> Outcome
     requires { IsAccepted (definitions_of plain.old) }
-    ensures left { LeavesOn (TextLeft (definitions_of plain.old) text.now result) (O.taken output.old) (O.taken output.new) }
+    ensures left { LeavesOn (TextLeft (definitions_of plain.new) text.now result) (O.taken output.old) (O.taken output.new) }
+    ensures grows { Grows (definitions_of plain.old) (definitions_of plain.new) }
     ensures count { IsWriteOutcome (O.faults output.old) (O.faults output.new) result }
 {
     let term = match read_input(alloc, &mut plain.symbols, text) {

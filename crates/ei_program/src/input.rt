@@ -1,5 +1,6 @@
 // The terms of an input.
 ghost use Rattle.std.specs.Prelude.{◌≡◌, ◌≤◌, ◌↔◌, length, IfOk, IfErr, IsTrue};
+ghost use Rattle.symbol_table.specs.Table.{Keeps};
 ghost use Rattle.standmath.specs.Answering.{IfRefused};
 ghost use Rattle.ei_program.specs.Input.{NothingLeft, IsRefused};
 ghost use Rattle.ei_program.specs.ReadInput.{IsInput};
@@ -31,9 +32,9 @@ pub fn read_input(
     symbols: &mut Symbols,
     text: &[u8],
 ) -> Result<Option<Flat>, ReadError>
-    ensures holds { IfOk result (IsInput symbols.old text.now) }
-    ensures refused { IfErr result (IfRefused (λ _. IsRefused symbols.old text.now)) }
-    ensures table { symbols.new.declared ≡ symbols.old.declared }
+    ensures holds { IfOk result (IsInput symbols.new text.now) }
+    ensures refused { IfErr result (IfRefused (λ _. IsRefused symbols.new text.now)) }
+    ensures keeps { Keeps symbols.old symbols.new }
 {
     if nothing_left(text, 0) {
         return Ok(None);

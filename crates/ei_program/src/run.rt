@@ -2,7 +2,7 @@
 ghost use Rattle.std.specs.Prelude.{◌≡◌, ◌≢◌, ◌⊎◌, ◌≤◌, ◌↔◌, ℕ, List, Option, Some, map, string_bytes};
 ghost use Rattle.eq_ports.specs.Causes.{Rose};
 ghost use Rattle.ei_program.specs.Words.{NamesFile};
-ghost use Rattle.ei_program.specs.Definitions.{definitions_of, IsAccepted};
+ghost use Rattle.ei_program.specs.Definitions.{definitions_of, IsAccepted, Grows};
 ghost use Rattle.ei_program.specs.Run.{InputLeft, Leaves, LeavesOn};
 ghost use Rattle.ei_program.specs.Cutting.{IsCut};
 
@@ -35,7 +35,8 @@ fn answer_input<I: Source, O: Sink>(
 ) -> Outcome
     requires { IsAccepted (definitions_of plain.old) }
     ensures left { (bytes : List ℕ) → I.left input.old ≡ Some bytes
-        → LeavesOn (InputLeft (definitions_of plain.old) bytes (I.left input.new) result) (O.taken output.old) (O.taken output.new) }
+        → LeavesOn (InputLeft (definitions_of plain.new) bytes (I.left input.new) result) (O.taken output.old) (O.taken output.new) }
+    ensures grows { Grows (definitions_of plain.old) (definitions_of plain.new) }
     ensures input_later { I.faults input.old ≤ I.faults input.new }
     ensures output_later { O.faults output.old ≤ O.faults output.new }
     ensures read { result ≡ Outcome.Stopped Stop.ReadFailed → Rose (I.faults input.old) (I.faults input.new) }

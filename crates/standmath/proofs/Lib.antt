@@ -3,8 +3,13 @@ pub mod Continuations
 pub mod Steps
 pub mod Counting
 pub mod Outlines
+mod HeadTokens
 pub mod Reached
 pub mod Answering
 pub mod Prints
 pub mod Printables
+pub mod Keeping
 pub mod Meanings
+mod OneReading
+pub mod Readables
+pub mod RoundTrip

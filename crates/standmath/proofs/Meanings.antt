@@ -1,23 +1,29 @@
 -- From the meaning of the lexemes one after another to the meaning of the term.
-use Rattle.std.proofs.Common.{◌≡◌, ℕ, zero, suc, ◌+◌, ◌-◌, ◌<◌, List, [], ◌∷◌, ◌++◌, length, map, take, drop, get_or, refl, sym, ap, ◌∙◌, append_assoc, append-nil, subst, arith}
+use Rattle.std.proofs.Common.{◌≡◌, ℕ, zero, suc, ◌+◌, ◌-◌, ◌<◌, List, [], ◌∷◌, ◌++◌, length, map, take, drop, get_or, inl, inr, refl, sym, ap, ◌∙◌, append_assoc, append-nil, subst, arith}
 use Rattle.std.proofs.lemmas.List.{map-append, length-map, get_or-map, take_more, drop_more, take-append-drop}
-use Rattle.std.proofs.lemmas.List.Elements.{All-from_recursion}
 use Rattle.std.specs.List.{AllByRecursion}
 use Rattle.eq_base.specs.Tree.{Tree, Forest, node, empty, grow, count, cells, all_cells, map_heads}
-use Rattle.eq_base.specs.Pattern.{PatternCell, fixed}
+use Rattle.eq_base.specs.Pattern.{PatternCell, fixed, variable, restricted}
 use Rattle.eq_base.specs.Building.{missing_from, missing_of}
 use Rattle.eq_base.specs.Preorder.{Completes}
 use Rattle.eq_base.specs.Cells.{kind_of, arity_in, with_arity, tree_cell}
 use Rattle.eq_base.specs.declared.head.Head.{Head}
+use Rattle.eq_base.specs.declared.head.Head.TheVariants.{Symbol, Numeral, Atom, Text}
 use Rattle.eq_base.specs.declared.head.Cell.{Cell}
 use Rattle.eq_base.proofs.Trees.{cells-map_heads}
 use Rattle.term_lex.specs.Lexemes.{Lexeme, lexeme}
 use Rattle.term_lex.specs.declared.fault.Fault.{Fault}
 use Rattle.symbol_table.specs.Table.{Table}
-use Rattle.standmath.specs.Refusing.{RefusesCell, IsFirstRefused}
+use Rattle.term_lex.specs.declared.fault.FaultKind.{FaultKind}
+use Rattle.term_lex.specs.declared.fault.FaultKind.TheVariants.{Unknown, WrongArity}
+use Rattle.term_lex.specs.declared.token.TokenKind.TheVariants.{Name}
+use Rattle.term_lex.specs.Parts.{IsKind}
+use Rattle.symbol_table.specs.Refusing.{RefusesUse}
+use Rattle.std.proofs.lemmas.Option.{slice_get_within, get_or_from_slice_get}
+use Rattle.standmath.specs.Refusing.{RefusesLiteral, RefusesCell, IsFaultless, IsFirstRefused}
 use Rattle.standmath.specs.declared.mentions.Mention.{Mention}
 use Rattle.standmath.specs.Terms.{Written}
-use Rattle.standmath.specs.Meaning.{outline, MeansCell, MeansTree, MeanTrees, Means}
+use Rattle.standmath.specs.Meaning.{outline, NamesHead, IsLiteral, MeansCell, MeansTree, MeanTrees, Means}
 use Rattle.standmath.specs.Mentions.{seen}
 use Rattle.standmath.specs.Cells.{MeanCells, ground_cell}
 
@@ -143,10 +149,54 @@ means_written table variables written p xs same h = means_whole table variables 
 
 -- ---- where a lexeme means nothing
 
-each_means : (table : Table) (variables : List (List ℕ)) (xs : List (Lexeme × ℕ)) (cs : List (PatternCell Head × ℕ)) → MeanCells table variables xs cs → AllByRecursion (λ x. (c : PatternCell Head) × MeansCell table variables x.0 x.1 c) xs
-each_means table variables [] cs h = tt
-each_means table variables (x ∷ xs) [] h = absurd h
-each_means table variables (x ∷ xs) (c ∷ cs) (here, same, rest) = ((c.0, here), each_means table variables xs cs rest)
+-- a name that stands for something is not refused
+pub not_refused : (table : Table) (name : List ℕ) (args : ℕ) (head : Head) (kind : FaultKind) → NamesHead table name args head → RefusesUse table name args kind → ⊥
+not_refused table name args (Symbol n) Unknown is (new, why) = new (n, args, is)
+not_refused table name args (Symbol n) (WrongArity arity found) is (declared, other, same) = other n is
+not_refused table name args (Atom n) Unknown (fresh, none, has, here) (new, inl some) = some none
+not_refused table name args (Atom n) Unknown (fresh, none, has, here) (new, inr never) = never has
+not_refused table name args (Atom n) (WrongArity arity found) (fresh, none, has, here) ((number, declared), other, same) = fresh (number, arity, declared)
+not_refused table name args (Symbol n) kind is refused = refused
+not_refused table name args (Atom n) kind is refused = refused
+not_refused table name args (Numeral i) kind is refused = is
+not_refused table name args (Text n) kind is refused = is
+
+-- a literal whose class is included is not refused
+literal_not_refused : (table : Table) (x : Lexeme) (head : Head) → IsLiteral table x head → RefusesLiteral table x → ⊥
+literal_not_refused table x (Numeral i) (kind, has, value) (inl (is, never)) = never has
+literal_not_refused table x (Numeral i) (kind, has, value) (inr (is, never)) = cc
+literal_not_refused table x (Text n) (kind, has, here) (inl (is, never)) = cc
+literal_not_refused table x (Text n) (kind, has, here) (inr (is, never)) = never has
+literal_not_refused table x (Symbol n) is refused = is
+literal_not_refused table x (Atom n) is refused = is
+
+pub name_is_no_literal : (table : Table) (x : Lexeme) → IsKind Name x → RefusesLiteral table x → ⊥
+name_is_no_literal table x name (inl (is, never)) = cc
+name_is_no_literal table x name (inr (is, never)) = cc
+
+pub literal_is_no_name : (table : Table) (x : Lexeme) (head : Head) → IsLiteral table x head → IsKind Name x → ⊥
+literal_is_no_name table x (Numeral i) (kind, has, value) name = cc
+literal_is_no_name table x (Text n) (kind, has, here) name = cc
+literal_is_no_name table x (Symbol n) is name = is
+literal_is_no_name table x (Atom n) is name = is
+
+-- what means something has no fault
+no_fault : (table : Table) (variables : List (List ℕ)) (x : Lexeme) (args : ℕ) (c : PatternCell Head) (kind : FaultKind) → MeansCell table variables x args c → RefusesCell table variables x args kind → ⊥
+no_fault table variables x args (variable v) kind (name, listed, none) (inl (literal, is)) = name_is_no_literal table x name literal
+no_fault table variables x args (variable v) kind (name, listed, none) (inr (inl (name', has, some, is))) = some none
+no_fault table variables x args (variable v) kind (name, listed, none) (inr (inr (name', free, why))) = free (v, slice_get_within variables v x.bytes listed, get_or_from_slice_get variables v x.bytes x.bytes listed)
+no_fault table variables x args (fixed head) kind (inl (name, free, is)) (inl (literal, same)) = name_is_no_literal table x name literal
+no_fault table variables x args (fixed head) kind (inl (name, free, is)) (inr (inl (name', has, some, same))) = free has
+no_fault table variables x args (fixed head) kind (inl (name, free, is)) (inr (inr (name', free', why))) = not_refused table x.bytes args head kind is why
+no_fault table variables x args (fixed head) kind (inr (none, is)) (inl (literal, same)) = literal_not_refused table x head is literal
+no_fault table variables x args (fixed head) kind (inr (none, is)) (inr (inl (name, has, some, same))) = literal_is_no_name table x head is name
+no_fault table variables x args (fixed head) kind (inr (none, is)) (inr (inr (name, free, why))) = literal_is_no_name table x head is name
+no_fault table variables x args (restricted v class) kind is refused = is
+
+pub faultless : (table : Table) (variables : List (List ℕ)) (xs : List (Lexeme × ℕ)) (cs : List (PatternCell Head × ℕ)) → MeanCells table variables xs cs → AllByRecursion (IsFaultless table variables) xs
+faultless table variables [] cs h = tt
+faultless table variables (x ∷ xs) [] h = absurd h
+faultless table variables (x ∷ xs) (c ∷ cs) (here, same, rest) = (λ kind refused. no_fault table variables x.0 x.1 c.0 kind here refused, faultless table variables xs cs rest)
 
 module _ (table : Table) (variables : List (List ℕ)) (text : List ℕ) (mentions : List Mention) (i : ℕ) (d : Mention) (lt : i < length mentions) where
   pub first_refused : (cs : List (PatternCell Head × ℕ)) (f : Fault) → MeanCells table variables (take i (map (seen text) mentions)) cs → RefusesCell table variables (lexeme text (get_or mentions i d).token) (get_or mentions i d).args f.kind → f.byte ≡ (get_or mentions i d).token.from → IsFirstRefused table variables (map (seen text) mentions) f
@@ -159,7 +209,7 @@ module _ (table : Table) (variables : List (List ℕ)) (text : List ℕ) (mentio
         here = seen text m;
         behind = drop (i + 1) xs;
         split = sym (take-append-drop i xs) ∙ ap (λ l. take i xs ++ l) (drop_more xs i (seen text m) within ∙ ap (λ x. x ∷ drop (i + 1) xs) (get_or-map (seen text) mentions i d (seen text m) lt));
-        mean = All-from_recursion (λ x. (c : PatternCell Head) × MeansCell table variables x.0 x.1 c) (take i xs) (each_means table variables (take i xs) cs h);
+        faultless = faultless table variables (take i xs) cs h;
         refused = refused;
         place = place;
       }

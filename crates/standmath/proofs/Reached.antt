@@ -1,6 +1,6 @@
 -- The invariant of the loop: which lexemes were read, what was met over them, and what may still come.
 use Rattle.std.proofs.Common.{◌≡◌, ℕ, zero, suc, ◌<◌, ◌≤◌, Bool, true, false, not, List, [], ◌∷◌, ◌++◌, inl, inr, refl, sym, ap, ◌∙◌, append_assoc, append-nil, subst, Ok, Err, Some, None, ◌↔◌, map, length, arith, length-append}
-use Rattle.std.specs.Prelude.{IfOk, ◌&&◌}
+use Rattle.std.specs.Prelude.{◌&&◌}
 use Rattle.std.specs.List.{AllByRecursion}
 use Rattle.std.proofs.lemmas.List.{map-append}
 use Rattle.std.proofs.lemmas.Bool.{and_parts}
@@ -10,23 +10,27 @@ use Rattle.term_lex.specs.declared.token.Token.{Token}
 use Rattle.term_lex.specs.declared.token.TokenKind.{TokenKind}
 use Rattle.term_lex.specs.declared.token.TokenKind.TheVariants.{Name, Numeral, Text, OpenRound, CloseRound, Comma, End}
 use Rattle.term_lex.specs.declared.fault.Fault.{Fault}
-use Rattle.term_lex.specs.Tokens.{IsWithin, token_at}
-use Rattle.term_lex.specs.Lexemes.{Lexeme, lexeme, lexeme_at, Scans, IsViable, IsFirstFault, Plainly, misplaced}
-use Rattle.term_lex.proofs.Readings.{scans_more, lexeme_found, lexeme_bad}
-use Rattle.term_lex.proofs.Places.{token_at_within}
+use Rattle.term_lex.specs.Tokens.{FirstToken}
+use Rattle.term_lex.specs.Values.{IsTokenOf}
+use Rattle.term_lex.specs.Lexemes.{Lexeme, lexeme, FirstLexeme, Scans, IsViable, IsFirstFault, Plainly, misplaced}
+use Rattle.term_lex.proofs.Tokens.{token_within}
+use Rattle.term_lex.proofs.Readings.{scans_more, lexeme_found, one_lexeme, no_lexeme}
 use Rattle.standmath.specs.declared.place.Place.{Place}
 use Rattle.standmath.specs.declared.place.Place.TheVariants.{Term, FirstArgument, AfterName, AfterTerm}
 use Rattle.standmath.specs.Terms.{Constant, NoMore, spelling, terminal_of, terminal_of_kind, IsSomeTerm}
 use Rattle.standmath.specs.Steps.{step_of, ends_term}
-use Rattle.standmath.specs.Mentions.{Met, increased, counted, met_head, met_kind, is_closed, without_first, IsInText, pair_of, seen, Mentioned}
+use Rattle.standmath.specs.Mentions.{Met, increased, counted, met_head, met_kind, is_closed, without_first, IsMention, pair_of, seen, Mentioned}
 use Rattle.standmath.specs.declared.mentions.Mention.{Mention}
 use Rattle.standmath.proofs.Continuations.{Closes, Begins, Completes}
 use Rattle.standmath.proofs.Steps.{is_nested, depth_after, StepIs, step_law, whole_completes, inside_completes, unfinished_completes}
+use Rattle.eq_base.specs.Tree.{cells}
+use Rattle.standmath.specs.Meaning.{outline}
+use Rattle.standmath.proofs.HeadTokens.{IsHead, heads_of_term}
 use Rattle.standmath.proofs.Outlines.{met_all, met_all-append, met_lexeme, nothing, met_term, with_bytes, bytes_of, kind-bytes}
 
--- each of the heads lies in the text
+-- each of the heads stands in the text
 abbrev pub AreInText : List ℕ → List (Token × ℕ) → Type 0
-AreInText text heads = AllByRecursion (λ h. IsInText text h.0) heads
+AreInText text heads = AllByRecursion (λ h. IsTokenOf text h.0) heads
 
 -- The lexemes up to `end` were read, these heads were met over them, and they go on to a term exactly by what completes the place.
 pub record Reached (text : List ℕ) (at : ℕ) (place : Place) (met : Met Token) (end : ℕ) : Type 0 where
@@ -72,14 +76,14 @@ counted_inside : (text : List ℕ) (ns : List ℕ) (hs : List (Token × ℕ)) �
 counted_inside text [] hs all = all
 counted_inside text (n ∷ ns) hs all = increased_inside text n hs all
 
-push_inside : (text : List ℕ) (hs : List (Token × ℕ)) (h : Token × ℕ) → AreInText text hs → IsInText text h.0 → AreInText text (hs ++ h ∷ [])
+push_inside : (text : List ℕ) (hs : List (Token × ℕ)) (h : Token × ℕ) → AreInText text hs → IsTokenOf text h.0 → AreInText text (hs ++ h ∷ [])
 push_inside text [] h all here = (here, tt)
 push_inside text (g ∷ hs) h (there, all) here = (there, push_inside text hs h all here)
 
-head_inside : (text : List ℕ) (t : Token) (m : Met Token) → AreInText text m.heads → IsInText text t → AreInText text (met_head t m).heads
+head_inside : (text : List ℕ) (t : Token) (m : Met Token) → AreInText text m.heads → IsTokenOf text t → AreInText text (met_head t m).heads
 head_inside text t m all here = push_inside text (counted m.open_heads m.heads) (t, 0) (counted_inside text m.open_heads m.heads all) here
 
-kind_inside : (text : List ℕ) (kind : TokenKind) (t : Token) (m : Met Token) → AreInText text m.heads → IsInText text t → AreInText text (met_kind kind t m).heads
+kind_inside : (text : List ℕ) (kind : TokenKind) (t : Token) (m : Met Token) → AreInText text m.heads → IsTokenOf text t → AreInText text (met_kind kind t m).heads
 kind_inside text Name t m all here = head_inside text t m all here
 kind_inside text Numeral t m all here = head_inside text t m all here
 kind_inside text Text t m all here = head_inside text t m all here
@@ -102,13 +106,6 @@ after_name AfterTerm Comma false t m e = cc
 after_name AfterTerm CloseRound true t m e = cc
 after_name AfterTerm CloseRound false t m e = cc
 after_name place kind nested t m e = cc
-
--- brackets open only behind a name
-pub opens_name : (place : Place) (nested : Bool) (next : Place) → step_of place OpenRound nested ≡ Some next → place ≡ AfterName
-opens_name Term nested next e = cc
-opens_name FirstArgument nested next e = cc
-opens_name AfterName nested next e = refl
-opens_name AfterTerm nested next e = cc
 
 -- the end of the text takes no step
 no_end : (place : Place) (nested : Bool) (next : Place) → step_of place End nested ≡ Some next → ⊥
@@ -150,9 +147,10 @@ completable FirstArgument d = (sign Name ∷ closing d, inl (name_begins d))
 completable AfterName d = (closing d, inl (closing_closes d))
 completable AfterTerm d = (closing d, closing_closes d)
 
-mentions_inside : (text : List ℕ) (ms : List Mention) → AreInText text (map pair_of ms) → AllByRecursion (λ m. IsInText text m.token) ms
-mentions_inside text [] all = tt
-mentions_inside text (m ∷ ms) (here, all) = (here, mentions_inside text ms all)
+-- mentions whose tokens stand in the text, and whose lexemes are heads
+mentions_inside : (text : List ℕ) (ms : List Mention) → AreInText text (map pair_of ms) → AllByRecursion IsHead (map (seen text) ms) → AllByRecursion (λ m. IsMention text m) ms
+mentions_inside text [] all heads = tt
+mentions_inside text (m ∷ ms) (here, all) (head, heads) = (record { stands = here; head = head }, mentions_inside text ms all heads)
 
 module _ (text : List ℕ) (at : ℕ) (place : Place) (met : Met Token) (end : ℕ) (r : Reached text at place met end) where
   abbrev nested : Bool
@@ -161,17 +159,17 @@ module _ (text : List ℕ) (at : ℕ) (place : Place) (met : Met Token) (end : �
   step_from : (kind : TokenKind) (x : Lexeme) → StepIs (step_of place kind nested) (depth_after kind (length met.open_heads)) (λ more. Completes place (length met.open_heads) (terminal_of_kind kind x ∷ more))
   step_from kind x = subst (λ b. StepIs (step_of place kind b) (depth_after kind (length met.open_heads)) (λ more. Completes place (length met.open_heads) (terminal_of_kind kind x ∷ more))) (sym (nested_is met.open_heads)) (step_law place (length met.open_heads) kind x)
 
-  pub reached_step : (next : Place) (new : Met Token) (t : Token) → token_at text end ≡ Ok t → step_of place t.kind nested ≡ Some next → new ≡ met_kind t.kind t met → (Reached text at next new t.to) × (end < t.to)
+  pub reached_step : (next : Place) (new : Met Token) (t : Token) → FirstToken text end (Ok t) → step_of place t.kind nested ≡ Some next → new ≡ met_kind t.kind t met → (Reached text at next new t.to) × (end < t.to)
   reached_step next new t found step is =
       let x = lexeme text t in
       let d = length met.open_heads in
       let law = subst (λ o. StepIs o (depth_after t.kind d) (λ more. Completes place d (terminal_of x ∷ more))) step (step_from t.kind x) in
-      let w = subst (λ a. IfOk a (IsWithin end (length text))) found (token_at_within text end r.within) in
+      let w = token_within text end (Ok t) r.within found in
       let goes_on : t.kind ≡ End → ⊥ = λ e. no_end place nested next (ap (λ k. step_of place k nested) (sym e) ∙ step) in
       let far : t.from < t.to = w.advances goes_on in
       let lexemes = r.lexemes ++ x ∷ [] in
       let depth : length new.open_heads ≡ depth_after t.kind d = ap (λ (m : Met Token). length m.open_heads) is ∙ depth_of t.kind t met in
-      let here : IsInText text t = record { ordered = w.ordered; within = w.ends } in (
+      let here : IsTokenOf text t = (end, r.within, found) in (
         record {
           lexemes = lexemes;
           scanned = scans_more text at r.lexemes end x r.scanned (lexeme_found text end t found);
@@ -212,27 +210,29 @@ module _ (text : List ℕ) (at : ℕ) (place : Place) (met : Met Token) (end : �
 
   -- what follows is no part of the term
   abbrev Ends : Type 0
-  Ends = (next : Lexeme) → lexeme_at text end ≡ Ok next → IsViable IsSomeTerm (r.lexemes ++ next ∷ []) → ⊥
+  Ends = (next : Lexeme) → FirstLexeme text end (Ok next) → IsViable IsSomeTerm (r.lexemes ++ next ∷ []) → ⊥
 
-  pub ends_before : (t : Token) → token_at text end ≡ Ok t → step_of place t.kind nested ≡ None → Ends
-  ends_before t found stuck = λ next is_next v. let same : next ≡ lexeme text t = cc (lexeme_found text end t found) in refused t stuck (subst (λ (x : Lexeme). IsViable IsSomeTerm (r.lexemes ++ x ∷ [])) same v)
+  pub ends_before : (t : Token) → FirstToken text end (Ok t) → step_of place t.kind nested ≡ None → Ends
+  ends_before t found stuck = λ next is_next v. let same : next ≡ lexeme text t = one_lexeme text end next (lexeme text t) is_next (lexeme_found text end t found) in refused t stuck (subst (λ (x : Lexeme). IsViable IsSomeTerm (r.lexemes ++ x ∷ [])) same v)
 
-  pub ends_at : (f : Fault) → token_at text end ≡ Err f → Ends
-  ends_at f bad = λ next is_next v. cc (lexeme_bad text end f bad)
+  pub ends_at : (f : Fault) → FirstToken text end (Err f) → Ends
+  ends_at f bad = λ next is_next v. no_lexeme text end next f is_next bad
 
   pub mentioned : (mentions : List Mention) → map pair_of mentions ≡ met.heads → (is_closed met.open_heads && ends_term place) ≡ true → Ends → Mentioned text at mentions end
   mentioned mentions same whole ends =
       let s = reached_sentence whole in
+      let outlined : map (seen text) mentions ≡ cells (outline s.0) = sym (map-map (bytes_of text) pair_of (seen text) mentions (λ m. refl)) ∙ ap (map (bytes_of text)) same ∙ ap (λ (m : Met Lexeme). m.heads) r.met_is ∙ ap (λ xs. (met_all xs nothing).heads) (sym s.1) ∙ met_term s.0 in
+      let heads = subst (AllByRecursion IsHead) (sym outlined) (heads_of_term s.0 r.lexemes s.1) in
       record {
         lexemes = r.lexemes;
         written = s.0;
         reads = record { scanned = r.scanned; sentence = s; longest = ends };
         spelled = s.1;
-        outlined = sym (map-map (bytes_of text) pair_of (seen text) mentions (λ m. refl)) ∙ ap (map (bytes_of text)) same ∙ ap (λ (m : Met Lexeme). m.heads) r.met_is ∙ ap (λ xs. (met_all xs nothing).heads) (sym s.1) ∙ met_term s.0;
-        inside = All-from_recursion (λ m. IsInText text m.token) mentions (mentions_inside text mentions (subst (AreInText text) (sym same) r.inside));
+        outlined = outlined;
+        inside = All-from_recursion (λ m. IsMention text m) mentions (mentions_inside text mentions (subst (AreInText text) (sym same) r.inside) heads);
       }
 
-  pub fault_at_token : (t : Token) → (is_closed met.open_heads && ends_term place) ≡ false → token_at text end ≡ Ok t → step_of place t.kind nested ≡ None → IsFirstFault Plainly IsSomeTerm text at (misplaced t)
+  pub fault_at_token : (t : Token) → (is_closed met.open_heads && ends_term place) ≡ false → FirstToken text end (Ok t) → step_of place t.kind nested ≡ None → IsFirstFault Plainly IsSomeTerm text at (misplaced t)
   fault_at_token t unfinished found stuck = record {
     lexemes = r.lexemes;
     end = end;
@@ -242,12 +242,12 @@ module _ (text : List ℕ) (at : ℕ) (place : Place) (met : Met Token) (end : �
     here = inr (lexeme text t, lexeme_found text end t found, refused t stuck, refl);
   }
 
-  pub fault_in_token : (f : Fault) → (is_closed met.open_heads && ends_term place) ≡ false → token_at text end ≡ Err f → IsFirstFault Plainly IsSomeTerm text at f
+  pub fault_in_token : (f : Fault) → (is_closed met.open_heads && ends_term place) ≡ false → FirstToken text end (Err f) → IsFirstFault Plainly IsSomeTerm text at f
   fault_in_token f unfinished bad = record {
     lexemes = r.lexemes;
     end = end;
     scanned = r.scanned;
     viable = reached_viable;
     unfinished = reached_unfinished unfinished;
-    here = inl (lexeme_bad text end f bad);
+    here = inl bad;
   }

@@ -1,5 +1,5 @@
 -- What a reader answered, where memory may have run out.
-use Rattle.std.specs.Prelude.{◌≡◌, ℕ, Result, Ok, Err}
+use Rattle.std.specs.Prelude.{◌≡◌, Result, Ok, Err}
 use Rattle.term_lex.specs.declared.fault.Fault.{Fault}
 use Rattle.standmath.specs.declared.error.ReadError.{ReadError}
 use Rattle.standmath.specs.declared.error.ReadError.TheVariants.{Refused, NoMemory}
@@ -10,11 +10,11 @@ IfRefused P (Refused fault) = P fault
 IfRefused P NoMemory = Unit {0}
 
 -- the answer is right, unless memory ran out
-abbrev pub AnswersRight : (Result ℕ Fault → Type 0) → Result ℕ ReadError → Type 0
-AnswersRight IsRight (Ok end) = IsRight (Ok end)
+abbrev pub AnswersRight : {A : Type 0} → (Result A Fault → Type 0) → Result A ReadError → Type 0
+AnswersRight IsRight (Ok x) = IsRight (Ok x)
 AnswersRight IsRight (Err e) = IfRefused (λ fault. IsRight (Err fault)) e
 
 -- the answer is this one, unless memory ran out
-abbrev pub AnswersAs : Result ℕ Fault → Result ℕ ReadError → Type 0
-AnswersAs answer (Ok end) = answer ≡ Ok end
+abbrev pub AnswersAs : {A : Type 0} → Result A Fault → Result A ReadError → Type 0
+AnswersAs answer (Ok x) = answer ≡ Ok x
 AnswersAs answer (Err e) = IfRefused (λ fault. answer ≡ Err fault) e

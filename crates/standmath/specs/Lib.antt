@@ -6,5 +6,6 @@ pub mod Answering
 pub mod Steps
 pub mod Mentions
 pub mod Printing
+pub mod Readable
 pub mod Writing
 pub mod Cells

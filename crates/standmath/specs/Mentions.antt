@@ -1,10 +1,11 @@
 -- The names and literals of a term as they are met from left to right, each with its arguments so far.
-use Rattle.std.specs.Prelude.{◌≡◌, ℕ, zero, suc, ◌-◌, ◌<◌, ◌≤◌, Bool, true, false, List, [], ◌∷◌, ◌++◌, length, map, reverse, All}
+use Rattle.std.specs.Prelude.{◌≡◌, ℕ, zero, suc, ◌-◌, ◌<◌, ◌≤◌, Bool, true, false, List, [], ◌∷◌, ◌++◌, length, map, reverse, All, ◌⊎◌}
 use Rattle.eq_base.specs.Tree.{cells}
 use Rattle.term_lex.specs.declared.token.Token.{Token}
 use Rattle.term_lex.specs.declared.token.TokenKind.{TokenKind}
 use Rattle.term_lex.specs.declared.token.TokenKind.TheVariants.{Name, Numeral, Text, OpenRound, CloseRound}
 use Rattle.term_lex.specs.Lexemes.{Lexeme, lexeme, Reads}
+use Rattle.term_lex.specs.Values.{IsTokenOf}
 use Rattle.standmath.specs.Terms.{Written, IsTerm, IsSomeTerm}
 use Rattle.standmath.specs.Meaning.{outline}
 use Rattle.standmath.specs.declared.mentions.Mention.{Mention}
@@ -66,14 +67,22 @@ pub record IsSound (mentions : List Mention) (opened : List ℕ) : Type 0 where
   pub inside : All (λ number. number < length mentions) opened
   pub few : All (λ mention. mention.args ≤ length mentions) mentions
 
--- the bytes of the token lie in the text
-pub record IsInText (text : List ℕ) (t : Token) : Type 0 where
-  pub ordered : t.from ≤ t.to
-  pub within : t.to ≤ length text
-
 -- the lexeme of a mention, with its number of arguments
 abbrev pub seen : List ℕ → Mention → Lexeme × ℕ
 seen text m = (lexeme text m.token, m.args)
+
+-- a numeral or a string
+abbrev pub IsLiteralKind : TokenKind → Type 0
+IsLiteralKind kind = (kind ≡ Numeral) ⊎ (kind ≡ Text)
+
+-- a name, or a literal, which has no arguments
+abbrev pub IsHeadToken : Token → ℕ → Type 0
+IsHeadToken t args = (t.kind ≡ Name) ⊎ (IsLiteralKind t.kind × (args ≡ 0))
+
+-- a name or a literal that stands in the text
+pub record IsMention (text : List ℕ) (m : Mention) : Type 0 where
+  pub stands : IsTokenOf text m.token
+  pub head : IsHeadToken m.token m.args
 
 -- these are the names and literals of the term that is read from `at` to `end`, each with its number of arguments
 pub record Mentioned (text : List ℕ) (at : ℕ) (mentions : List Mention) (end : ℕ) : Type 0 where
@@ -82,4 +91,4 @@ pub record Mentioned (text : List ℕ) (at : ℕ) (mentions : List Mention) (end
   pub reads : Reads IsSomeTerm text at lexemes end
   pub spelled : IsTerm written lexemes
   pub outlined : map (seen text) mentions ≡ cells (outline written)
-  pub inside : All (λ m. IsInText text m.token) mentions
+  pub inside : All (λ m. IsMention text m) mentions

@@ -53,3 +53,55 @@ fn peano(rt: HostRuntime) -> Result<(), Fail> {
     assert_eq!(rt; skip_term(rt.alloc(), b"f(1, \"a\") # no token", 0), Ok(9));
     Ok(())
 }
+
+#[test]
+fn each_front_of_a_term_is_unended(rt: HostRuntime) {
+    let mut symbols = Symbols::new(rt.alloc());
+    for text in [
+        b"".as_slice(),
+        b"pl",
+        b"plus",
+        b"plus(",
+        b"plus(s(z)",
+        b"plus(s(z), ",
+        b"plus(s(z), -1",
+        b"plus(s(z), -1, \"a\")",
+    ] {
+        let read = read_term(rt.alloc(), &mut symbols, text, 0);
+        assert!(rt;
+            read.map(|(term, end)| (term.len(), end)) == refused(FaultKind::Unended, text.len())
+        );
+    }
+}
+
+#[test]
+fn literals_and_atoms(rt: HostRuntime) {
+    let mut symbols = Symbols::new(rt.alloc());
+    assert!(rt; symbols.declare(b"f", 2).is_ok());
+    for class in [
+        b"integer_numerals".as_slice(),
+        b"strings",
+        b"atomic_symbols",
+    ] {
+        assert!(rt; symbols.include(class).is_ok());
+    }
+    for (text, want) in [
+        (b"f(q, -7).".as_slice(), Ok((3, 9))),
+        (b"f(\"a\\n\", q()) .", Ok((3, 15))),
+        (b"q(1).", refused(FaultKind::Unknown, 0)),
+        (
+            b"f(\"a\", 1, q).",
+            refused(
+                FaultKind::WrongArity {
+                    declared: 2,
+                    found: 3,
+                },
+                0,
+            ),
+        ),
+        (b"f(q, \"a).", refused(FaultKind::OpenString, 5)),
+    ] {
+        let read = read_term(rt.alloc(), &mut symbols, text, 0);
+        assert!(rt; read.map(|(term, end)| (term.len(), end)) == want);
+    }
+}

@@ -2,10 +2,13 @@
 ghost use Rattle.std.specs.Prelude.{◌≡◌, ◌<◌, ◌≤◌, ◌+◌, ◌++◌, ◌∷◌, [], length, reverse, codes, OnOk};
 ghost use Rattle.eq_base.specs.Tree.{arity_of};
 ghost use Rattle.eq_base.specs.View.{tree_at};
-ghost use Rattle.standmath.specs.Printing.{print, head_text, HasText, IsPrintable, IsFront};
+ghost use Rattle.term_lex.specs.Strings.{written};
+ghost use Rattle.standmath.specs.Printing.{print, head_text, quoted, HasText, IsPrintable};
+ghost use Rattle.standmath.specs.Readable.{IsReadableTerm, IsReadAgain};
+ghost use Rattle.symbol_table.specs.Table.{IsFront};
 ghost use Rattle.standmath.specs.Writing.{text_before, text_end, text_left, steps_left, IsOpen, AreOpen};
 
-use eq_base::{Head, NoMemory, TermView};
+use eq_base::{Head, NoMemory, TermView, push_numeral};
 use std::alloc::Global;
 use symbol_table::Symbols;
 
@@ -16,6 +19,34 @@ struct Open {
     written: u8,
 }
 
+/// Writes a byte of a string.
+fn write_string_byte(byte: u8, into: &mut Vec<u8>) -> Result<(), NoMemory>
+    ensures ok { OnOk result (into.new.items ≡ into.old.items ++ written byte) }
+    ensures front { IsFront into.old.items into.new.items }
+{
+    match byte {
+        b'"' => into.extend_from_slice(b"\\\"")?,
+        b'\\' => into.extend_from_slice(b"\\\\")?,
+        b'\n' => into.extend_from_slice(b"\\n")?,
+        b'\t' => into.extend_from_slice(b"\\t")?,
+        _ => into.push(byte)?,
+    }
+    Ok(())
+}
+
+/// Writes a string that holds the bytes.
+fn write_string(bytes: &[u8], into: &mut Vec<u8>) -> Result<(), NoMemory>
+    ensures ok { OnOk result (into.new.items ≡ into.old.items ++ quoted bytes.now) }
+    ensures front { IsFront into.old.items into.new.items }
+{
+    into.push(b'"')?;
+    for byte in bytes {
+        write_string_byte(*byte, into)?;
+    }
+    into.push(b'"')?;
+    Ok(())
+}
+
 /// Writes the text of a head.
 fn write_head(symbols: &Symbols, head: Head, into: &mut Vec<u8>) -> Result<(), NoMemory>
     requires { HasText symbols.now head }
@@ -24,7 +55,9 @@ fn write_head(symbols: &Symbols, head: Head, into: &mut Vec<u8>) -> Result<(), N
 {
     match head {
         Head::Symbol(number) => into.extend_from_slice(symbols.name_of(number))?,
-        Head::Numeral(_) | Head::Atom(_) | Head::Text(_) => unreachable!(),
+        Head::Numeral(value) => push_numeral(into, value)?,
+        Head::Atom(number) => into.extend_from_slice(symbols.atom(number))?,
+        Head::Text(number) => write_string(symbols.text(number), into)?,
     }
     Ok(())
 }
@@ -90,12 +123,14 @@ fn write_next<T: TermView>(
     Ok(())
 }
 
-/// Appends the print of the term at a node: a constant as its name, `f(a, b)` with a comma and one blank between two
-/// arguments. Time: the bytes written, and one `arg` of the view for each argument.
+/// Appends the print of the term at a node: a name, a numeral in decimal digits or a string between quotes, and
+/// `f(a, b)` with a comma and one blank between two arguments. With a dot behind it, it is read as the term again. Time:
+/// the bytes written, and one `arg` of the view for each argument.
 ///
 /// # Errors
 ///
 /// Out of memory; `into` then still begins with its old bytes.
+#[tactic(auto, using(crate::proofs::RoundTrip::print_is_read))]
 pub fn write_term<T: TermView>(
     alloc: Global,
     symbols: &Symbols,
@@ -106,6 +141,7 @@ pub fn write_term<T: TermView>(
     requires node { node < length (T.trees view.now) }
     requires printable { IsPrintable symbols.now (tree_at (T.trees view.now) node) }
     ensures ok { OnOk result (into.new.items ≡ into.old.items ++ print symbols.now (tree_at (T.trees view.now) node)) }
+    ensures read_again { IsReadableTerm symbols.now (tree_at (T.trees view.now) node) → IsReadAgain symbols.now (tree_at (T.trees view.now) node) }
     ensures front { IsFront into.old.items into.new.items }
 {
     write_head(symbols, view.head(node), into)?;

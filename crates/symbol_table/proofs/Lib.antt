@@ -1,4 +1,7 @@
 pub mod Declarations
 mod Places
+mod Keys
+mod Numbers
 mod LookUps
-mod Pushed
+mod Growing
+pub mod Keeping

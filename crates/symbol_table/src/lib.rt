@@ -1,12 +1,14 @@
-//! Names: the declared symbols with their numbers, and the variables of a file.
+//! Names: the declared symbols with their numbers, the atoms and texts, and the variables of a file.
 #![tactic(auto)]
 
+mod classes;
 mod error;
+mod interned;
 mod symbols;
 mod variables;
 
 pub use error::SymbolError;
-pub use symbols::Symbols;
+pub use symbols::{Mark, Symbols};
 pub use variables::Variables;
 
 #[cfg(test)]

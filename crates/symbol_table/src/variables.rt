@@ -1,10 +1,11 @@
 ghost use Rattle.std.specs.Prelude.{◌≡◌, ◌↔◌, ℕ, ◌<◌, ◌^◌, [], Some, length, slice_get, Contains, IsNone, OnOk, IfErr, OnErr};
 ghost use Rattle.symbol_table.specs.Refusing.{IfRefused, RefusesVariable};
-ghost use Rattle.symbol_table.specs.Variables.{HasDistinctVariables, AddsVariable};
+ghost use Rattle.symbol_table.specs.Table.{AreDistinct};
+ghost use Rattle.symbol_table.specs.Variables.{AddsVariable};
 
 use crate::error::SymbolError;
+use crate::interned::Interned;
 use crate::symbols::Symbols;
-use indexmap::IndexSet;
 use std::alloc::Global;
 use std::marker::Model;
 use term_lex::FaultKind;
@@ -12,18 +13,17 @@ use term_lex::FaultKind;
 /// The variables of a file. Contracts see the list of their names, in the order in which they were added.
 #[derive(Drop)]
 pub struct Variables {
-    names: IndexSet<Vec<u8>>,
+    names: Interned,
 }
 
 impl Model for Variables {
-    ghost use Rattle.std.specs.Prelude.{ℕ, List};
-    ghost use Rattle.symbol_table.specs.Entries.{variables_of, IsVariables};
+    ghost use Rattle.std.specs.Prelude.{ℕ, ◌^◌, ◌≤◌, List, length};
 
     ghost Value = { List (List ℕ) };
 
-    ghost view = { λ v. variables_of v.names.keys };
+    ghost view = { λ v. v.names };
 
-    ghost invariant = { λ v. IsVariables (variables_of v.names.keys) };
+    ghost invariant = { λ v. length v.names ≤ 2 ^ 32 };
 }
 
 impl Variables {
@@ -32,7 +32,7 @@ impl Variables {
         ensures { result ≡ [] }
     {
         Variables {
-            names: IndexSet::new(alloc),
+            names: Interned::new(alloc),
         }
     }
 
@@ -46,8 +46,7 @@ impl Variables {
         if self.find(name).is_some() || symbols.find(name).is_some() {
             return Err(SymbolError::Refused(FaultKind::VariableTwice));
         }
-        let name = name.to_vec(*self.names.allocator())?;
-        self.names.insert(name)?;
+        self.names.intern(name)?;
         Ok(())
     }
 
@@ -55,9 +54,9 @@ impl Variables {
     pub fn find(&self, name: &[u8]) -> Option<u32>
         ensures listed { (index : ℕ) → (result ≡ Some index) ↔ (slice_get self.now index ≡ Some name.now) }
         ensures none { IsNone result ↔ (¬ Contains self.now name.now) }
-        ensures distinct { HasDistinctVariables self.now }
+        ensures distinct { AreDistinct self.now }
     {
-        let (index, _) = self.names.get_full(name)?;
+        let index = self.names.find(name)?;
         Some(index as u32)
     }
 }

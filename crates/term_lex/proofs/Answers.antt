@@ -2,10 +2,10 @@
 use Rattle.std.proofs.Common.{◌≡◌, ℕ, Bool, true, List, [], ◌∷◌, ◌++◌, inl, inr, refl, sym, append-nil, append_assoc, subst, Result, Ok, Err}
 use Rattle.term_lex.specs.declared.token.Token.{Token}
 use Rattle.term_lex.specs.declared.fault.Fault.{Fault}
-use Rattle.term_lex.specs.Tokens.{token_at}
-use Rattle.term_lex.specs.Lexemes.{Lexeme, lexeme, lexeme_at, Scans, IsViable, IsAnswerBy}
+use Rattle.term_lex.specs.Tokens.{FirstToken}
+use Rattle.term_lex.specs.Lexemes.{Lexeme, lexeme, FirstLexeme, Scans, IsViable, IsAnswerBy}
 use Rattle.term_lex.specs.Parts.{Nothing, One, Then, BeginsWith, Either, NextIs}
-use Rattle.term_lex.proofs.Readings.{lexeme_found, lexeme_bad}
+use Rattle.term_lex.proofs.Readings.{lexeme_found, one_lexeme, no_lexeme}
 use Rattle.term_lex.proofs.Sequences.{then_reads, then_first_fault, then_second_fault}
 use Rattle.term_lex.proofs.Marks.{Mark, disjoint}
 use Rattle.term_lex.proofs.Parts.{IsPart, apart}
@@ -32,7 +32,7 @@ module _ (M : List Lexeme → Lexeme → Fault → Type 0) (text : List ℕ) (at
 
   -- one lexeme
   module _ {Test : Lexeme → Type 0} (x0 : Lexeme) (passes : Test x0) where
-    pub one_ok : (t : Token) → token_at text at ≡ Ok t → Test (lexeme text t) → IsAnswerBy M (One Test) text at (Ok t.to)
+    pub one_ok : (t : Token) → FirstToken text at (Ok t) → Test (lexeme text t) → IsAnswerBy M (One Test) text at (Ok t.to)
     one_ok t found is = (
       lexeme text t ∷ [],
       record {
@@ -45,10 +45,10 @@ module _ (M : List Lexeme → Lexeme → Fault → Type 0) (text : List ℕ) (at
     no_test : One Test [] → ⊥
     no_test (t, e, k) = cc
 
-    pub one_bad : (f : Fault) → token_at text at ≡ Err f → IsAnswerBy M (One Test) text at (Err f)
-    one_bad f bad = record { lexemes = []; end = at; scanned = refl; viable = (x0 ∷ [], (x0, refl, passes)); unfinished = no_test; here = inl (lexeme_bad text at f bad) }
+    pub one_bad : (f : Fault) → FirstToken text at (Err f) → IsAnswerBy M (One Test) text at (Err f)
+    one_bad f bad = record { lexemes = []; end = at; scanned = refl; viable = (x0 ∷ [], (x0, refl, passes)); unfinished = no_test; here = inl bad }
 
-    pub one_misplaced : (t : Token) (f : Fault) → token_at text at ≡ Ok t → (Test (lexeme text t) → ⊥) → M [] (lexeme text t) f → IsAnswerBy M (One Test) text at (Err f)
+    pub one_misplaced : (t : Token) (f : Fault) → FirstToken text at (Ok t) → (Test (lexeme text t) → ⊥) → M [] (lexeme text t) f → IsAnswerBy M (One Test) text at (Err f)
     one_misplaced t f found other is = record {
       lexemes = [];
       end = at;
@@ -59,8 +59,8 @@ module _ (M : List Lexeme → Lexeme → Fault → Type 0) (text : List ℕ) (at
     }
 
   -- the first lexeme that stands here
-  first_of_scanned : (xs : List Lexeme) (end : ℕ) → Scans text at xs end → (y : Lexeme) → lexeme_at text end ≡ Ok y → (Test : Lexeme → Type 0) → (rest : List Lexeme) → BeginsWith Test ((xs ++ y ∷ []) ++ rest) → NextIs Test text at
-  first_of_scanned [] end e y found Test rest b = (y, subst (λ n. lexeme_at text n ≡ Ok y) e found, b)
+  first_of_scanned : (xs : List Lexeme) (end : ℕ) → Scans text at xs end → (y : Lexeme) → FirstLexeme text end (Ok y) → (Test : Lexeme → Type 0) → (rest : List Lexeme) → BeginsWith Test ((xs ++ y ∷ []) ++ rest) → NextIs Test text at
+  first_of_scanned [] end e y found Test rest b = (y, subst (λ n. FirstLexeme text n (Ok y)) e found, b)
   first_of_scanned (x ∷ xs) end (first, s) y found Test rest b = (x, first, b)
 
   first_scanned : (xs : List Lexeme) (end : ℕ) → Scans text at xs end → (Test : Lexeme → Type 0) → BeginsWith Test xs → NextIs Test text at
@@ -72,7 +72,7 @@ module _ (M : List Lexeme → Lexeme → Fault → Type 0) (text : List ℕ) (at
     -- where the next lexeme passes, a list of lexemes from here begins so
     begins_so : NextIs Test text at → (xs : List Lexeme) (end : ℕ) → Scans text at xs end → (rest : List Lexeme) → (xs ≡ [] → ⊥) → BeginsWith Test (xs ++ rest)
     begins_so (x, found, test) [] end s rest f = absurd (f refl)
-    begins_so (x, found, test) (y ∷ ys) end (first, s) rest f = let same : x ≡ y = cc in subst Test same test
+    begins_so (x, found, test) (y ∷ ys) end (first, s) rest f = let same : x ≡ y = one_lexeme text at x y found first in subst Test same test
 
     not_empty : (xs : List Lexeme) → H xs → xs ≡ [] → ⊥
     not_empty xs h e = begun [] (subst H e h)
@@ -109,10 +109,9 @@ module _ (M : List Lexeme → Lexeme → Fault → Type 0) (text : List ℕ) (at
       -- a fault at the very first lexeme would refuse the one that passes
       some : r.lexemes ≡ [] → ⊥
       some e = elim r.here [
-        | inl bad ↦ let same = here_now e in let a : lexeme_at text at ≡ Err f = subst (λ n. lexeme_at text n ≡ Err f) same bad in cc (a, next.1)
+        | inl bad ↦ no_lexeme text at next.0 f next.1 (subst (λ n. FirstLexeme text n (Err f)) (here_now e) bad)
         | inr (x, found, refused, is) ↦
-            let a : lexeme_at text at ≡ Ok x = subst (λ n. lexeme_at text n ≡ Ok x) (here_now e) found in
-            let same : next.0 ≡ x = cc (a, next.1) in
+            let same : next.0 ≡ x = one_lexeme text at next.0 x next.1 (subst (λ n. FirstLexeme text n (Ok x)) (here_now e) found) in
             refused (subst (λ xs. IsViable H (xs ++ x ∷ [])) (sym e) (can x (subst Test same next.2)))
       ]
 

@@ -1,6 +1,9 @@
 pub mod Digits
-pub mod Places
-pub mod Numerals
+pub mod Gaps
+pub mod Strings
+pub mod Elements
+pub mod Tokens
+pub mod LiteralTokens
 pub mod Readings
 pub mod Sequences
 pub mod Marks
@@ -10,3 +13,4 @@ pub mod Answers
 pub mod PlainAnswers
 pub mod ListAnswers
 pub mod OneTree
+pub mod Spellings

@@ -5,12 +5,12 @@ use Rattle.term_lex.specs.declared.token.Token.{Token}
 use Rattle.term_lex.specs.declared.token.TokenKind.{TokenKind}
 use Rattle.term_lex.specs.declared.token.TokenKind.TheVariants.{Name, End}
 use Rattle.term_lex.specs.declared.fault.Fault.{Fault}
-use Rattle.term_lex.specs.Tokens.{IsWithin, token_at}
+use Rattle.term_lex.specs.Tokens.{FirstToken}
 use Rattle.term_lex.specs.Lexemes.{misplaced}
 use Rattle.term_lex.specs.Lexemes.{Lexeme, lexeme, Scans, IsViable, Plainly, IsAnswer}
 use Rattle.term_lex.specs.Parts.{IsKind, IsWord, Nothing, One, Then, BeginsWith, Either, Some, Each, Closed, NextIs}
-use Rattle.term_lex.proofs.Places.{token_at_within}
-use Rattle.term_lex.proofs.Readings.{token_found, scans_within, one_answer}
+use Rattle.term_lex.proofs.Tokens.{token_within}
+use Rattle.term_lex.proofs.Readings.{scans_within, one_answer}
 use Rattle.term_lex.proofs.Marks.{Mark, Kind, Word, Fits, HasMark, disjoint, disjoint_marks}
 use Rattle.term_lex.proofs.Parts.{IsPart, one_part, then_begun, each_cases, each_more}
 use Rattle.term_lex.proofs.Lists.{Behind, closed_cases, closed_none, closed_more}
@@ -41,22 +41,22 @@ pub at_result : (G : List Lexeme → Type 0) (text : List ℕ) (at : ℕ) {r s :
 at_result G text at e a = subst (IsAnswer G text at) (sym e) a
 
 module _ (text : List ℕ) (at : ℕ) where
-  pub kind_ok : (k : TokenKind) (t : Token) → token_at text at ≡ Ok t → t.kind ≡ k → IsAnswer (One (IsKind k)) text at (Ok t.to)
+  pub kind_ok : (k : TokenKind) (t : Token) → FirstToken text at (Ok t) → t.kind ≡ k → IsAnswer (One (IsKind k)) text at (Ok t.to)
   kind_ok k t found is = one_ok Plainly text at (some_of_kind k) (of_kind k) t found is
 
-  pub kind_bad : (k : TokenKind) (f : Fault) → token_at text at ≡ Err f → IsAnswer (One (IsKind k)) text at (Err f)
+  pub kind_bad : (k : TokenKind) (f : Fault) → FirstToken text at (Err f) → IsAnswer (One (IsKind k)) text at (Err f)
   kind_bad k f bad = one_bad Plainly text at (some_of_kind k) (of_kind k) f bad
 
-  pub kind_misplaced : (k : TokenKind) (t : Token) → token_at text at ≡ Ok t → (t.kind ≡ k → ⊥) → IsAnswer (One (IsKind k)) text at (Err (misplaced t))
+  pub kind_misplaced : (k : TokenKind) (t : Token) → FirstToken text at (Ok t) → (t.kind ≡ k → ⊥) → IsAnswer (One (IsKind k)) text at (Err (misplaced t))
   kind_misplaced k t found other = one_misplaced Plainly text at (some_of_kind k) (of_kind k) t (misplaced t) found other refl
 
-  pub word_ok : (w : List ℕ) (t : Token) → token_at text at ≡ Ok t → IsWord w (lexeme text t) → IsAnswer (One (IsWord w)) text at (Ok t.to)
+  pub word_ok : (w : List ℕ) (t : Token) → FirstToken text at (Ok t) → IsWord w (lexeme text t) → IsAnswer (One (IsWord w)) text at (Ok t.to)
   word_ok w t found is = one_ok Plainly text at (some_word w) (of_word w) t found is
 
-  pub word_bad : (w : List ℕ) (f : Fault) → token_at text at ≡ Err f → IsAnswer (One (IsWord w)) text at (Err f)
+  pub word_bad : (w : List ℕ) (f : Fault) → FirstToken text at (Err f) → IsAnswer (One (IsWord w)) text at (Err f)
   word_bad w f bad = one_bad Plainly text at (some_word w) (of_word w) f bad
 
-  pub word_misplaced : (w : List ℕ) (t : Token) → token_at text at ≡ Ok t → (IsWord w (lexeme text t) → ⊥) → IsAnswer (One (IsWord w)) text at (Err (misplaced t))
+  pub word_misplaced : (w : List ℕ) (t : Token) → FirstToken text at (Ok t) → (IsWord w (lexeme text t) → ⊥) → IsAnswer (One (IsWord w)) text at (Err (misplaced t))
   word_misplaced w t found other = one_misplaced Plainly text at (some_word w) (of_word w) t (misplaced t) found other refl
 
 -- one part after the other
@@ -175,7 +175,7 @@ answer_further {G = G} {first = first} p e text at end le (xs, r) = goes xs r.sc
   goes : (xs : List Lexeme) → Scans text at xs end → G xs → at < end
   goes [] s g = let no = p.empty g in cc
   goes (x ∷ xs) (found, s) g =
-      let w = subst (λ a. IfOk a (IsWithin at (length text))) (token_found text at x found) (token_at_within text at le) in
+      let w = token_within text at (Ok x.token) le found.0 in
       let far : x.token.from < x.token.to = w.advances (λ is_end. disjoint_marks (Kind End ∷ []) first x e (inl is_end) (p.begins x (xs, g))) in
       let later = scans_within text x.token.to xs end w.ends s in
       omega (arith, later.0, w.starts, far)
@@ -187,6 +187,6 @@ ends_within G text at le (Err f) a = tt
 -- a token that is next is not refused
 pub kind_next : (k : TokenKind) (text : List ℕ) (at : ℕ) → NextIs (IsKind k) text at → (f : Fault) → IsAnswer (One (IsKind k)) text at (Err f) → ⊥
 kind_next k text at (x, found, is) f a =
-    let good = kind_ok text at k x.token (token_found text at x found) is in
+    let good = kind_ok text at k x.token found.0 is in
     let same : (Err f) ≡ (Ok x.token.to) = one_answer (One (IsKind k)) text at (Err f) (Ok x.token.to) a good in
     cc

@@ -1,7 +1,7 @@
 -- Reading by two grammars, one after the other: the answers of the parts are the answer of the whole.
 use Rattle.std.proofs.Common.{◌≡◌, ℕ, List, [], ◌∷◌, ◌++◌, ◌⊎◌, inl, inr, refl, sym, ◌∙◌, append_assoc, append-nil, subst, Ok}
 use Rattle.term_lex.specs.declared.fault.Fault.{Fault}
-use Rattle.term_lex.specs.Lexemes.{Lexeme, lexeme_at, Scans, IsViable, Reads, IsFirstFault}
+use Rattle.term_lex.specs.Lexemes.{Lexeme, FirstLexeme, Scans, IsViable, Reads, IsFirstFault}
 use Rattle.term_lex.specs.Parts.{Then}
 use Rattle.term_lex.proofs.Readings.{scans_append, sentence_viable, viable_front}
 
@@ -32,8 +32,8 @@ module _ (H K : List Lexeme → Type 0) (apart : (ts : List Lexeme) (x : Lexeme)
     | inr (inr c) ↦ absurd (apart front c.0 h' (viable_front H front c.0 c.1 ts c.2 (sentence_viable H ts h)) (viable_front K [] c.0 (c.1 ++ rest) back c.3 (sentence_viable K back k)))
   ]
 
-  stop_at : (text : List ℕ) (at mid end : ℕ) (ts us tail : List Lexeme) → Reads H text at ts mid → Scans text mid us end → IsViable K us → ((x : Lexeme) (zs : List Lexeme) → tail ≡ x ∷ zs → lexeme_at text end ≡ Ok x) → (y : Lexeme) (zs : List Lexeme) → us ++ tail ≡ y ∷ zs → IsViable H (ts ++ y ∷ []) → ⊥
-  stop_at text at mid end ts [] tail r e v found y zs same v' = r.longest y (subst (λ n. lexeme_at text n ≡ Ok y) e (found y zs same)) v'
+  stop_at : (text : List ℕ) (at mid end : ℕ) (ts us tail : List Lexeme) → Reads H text at ts mid → Scans text mid us end → IsViable K us → ((x : Lexeme) (zs : List Lexeme) → tail ≡ x ∷ zs → FirstLexeme text end (Ok x)) → (y : Lexeme) (zs : List Lexeme) → us ++ tail ≡ y ∷ zs → IsViable H (ts ++ y ∷ []) → ⊥
+  stop_at text at mid end ts [] tail r e v found y zs same v' = r.longest y (subst (λ n. FirstLexeme text n (Ok y)) e (found y zs same)) v'
   stop_at text at mid end ts (u ∷ us) tail r s v found y zs same v' =
       let first : u ≡ y = cc in
       apart ts u r.sentence (subst (λ (z : Lexeme). IsViable H (ts ++ z ∷ [])) (sym first) v') (viable_front K [] u us (u ∷ us) refl v)
@@ -44,7 +44,7 @@ module _ (H K : List Lexeme → Type 0) (apart : (ts : List Lexeme) (x : Lexeme)
     sentence = (ts, us, refl, r.sentence, s.sentence);
     longest = λ next found v.
         let regroup : (ts ++ us) ++ next ∷ [] ++ v.0 ≡ ts ++ (us ++ next ∷ v.0) = append_assoc (ts ++ us) (next ∷ []) v.0 ∙ append_assoc ts us (next ∷ v.0) in
-        let k = cut_here ts (us ++ next ∷ v.0) r.sentence (subst (Then H K) regroup v.1) (stop_at text at mid end ts us (next ∷ v.0) r s.scanned (sentence_viable K us s.sentence) (λ x zs e. let same : next ≡ x = cc in subst (λ (z : Lexeme). lexeme_at text end ≡ Ok z) same found)) in
+        let k = cut_here ts (us ++ next ∷ v.0) r.sentence (subst (Then H K) regroup v.1) (stop_at text at mid end ts us (next ∷ v.0) r s.scanned (sentence_viable K us s.sentence) (λ x zs e. let same : next ≡ x = cc in subst (λ (z : Lexeme). FirstLexeme text end (Ok z)) same found)) in
         s.longest next found (v.0, subst K (sym (append_assoc us (next ∷ []) v.0)) k);
   }
 
@@ -63,7 +63,7 @@ module _ (H K : List Lexeme → Type 0) (apart : (ts : List Lexeme) (x : Lexeme)
         found,
         (λ v.
             let regroup : (ts ++ s.lexemes) ++ x ∷ [] ++ v.0 ≡ ts ++ (s.lexemes ++ x ∷ v.0) = append_assoc (ts ++ s.lexemes) (x ∷ []) v.0 ∙ append_assoc ts s.lexemes (x ∷ v.0) in
-            let k = cut_here ts (s.lexemes ++ x ∷ v.0) r.sentence (subst (Then H K) regroup v.1) (stop_at text at mid s.end ts s.lexemes (x ∷ v.0) r s.scanned s.viable (λ y zs e. let same : x ≡ y = cc in subst (λ (z : Lexeme). lexeme_at text s.end ≡ Ok z) same found)) in
+            let k = cut_here ts (s.lexemes ++ x ∷ v.0) r.sentence (subst (Then H K) regroup v.1) (stop_at text at mid s.end ts s.lexemes (x ∷ v.0) r s.scanned s.viable (λ y zs e. let same : x ≡ y = cc in subst (λ (z : Lexeme). FirstLexeme text s.end (Ok z)) same found)) in
             refused (v.0, subst K (sym (append_assoc s.lexemes (x ∷ []) v.0)) k)),
         kinds ts s.lexemes x f r.sentence s.viable is,
       )

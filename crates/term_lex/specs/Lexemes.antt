@@ -6,7 +6,7 @@ use Rattle.term_lex.specs.declared.token.TokenKind.TheVariants.{End}
 use Rattle.term_lex.specs.declared.fault.Fault.{Fault}
 use Rattle.term_lex.specs.declared.fault.FaultKind.{FaultKind}
 use Rattle.term_lex.specs.declared.fault.FaultKind.TheVariants.{Expected, Unended}
-use Rattle.term_lex.specs.Tokens.{token_at}
+use Rattle.term_lex.specs.Tokens.{FirstToken}
 
 -- a token and the bytes that it is
 pub record Lexeme : Type 0 where
@@ -17,19 +17,15 @@ pub record Lexeme : Type 0 where
 abbrev pub lexeme : List ℕ → Token → Lexeme
 lexeme text t = record { token = t; bytes = slice_range text t.from t.to }
 
--- the same answer with the bytes of the token
-abbrev pub with_bytes : List ℕ → Result Token Fault → Result Lexeme Fault
-with_bytes text (Ok t) = Ok (lexeme text t)
-with_bytes text (Err f) = Err f
-
--- the first lexeme from `at` on, or its fault
-abbrev pub lexeme_at : List ℕ → ℕ → Result Lexeme Fault
-lexeme_at text at = with_bytes text (token_at text at)
+-- the first lexeme of a text from `at` on, or the fault of its token
+abbrev pub FirstLexeme : List ℕ → ℕ → Result Lexeme Fault → Type 0
+FirstLexeme text at (Ok x) = FirstToken text at (Ok x.token) × (x ≡ lexeme text x.token)
+FirstLexeme text at (Err f) = FirstToken text at (Err f)
 
 -- the lexemes stand one after another in the text from `at` on, the last one ends at `end`
 abbrev pub Scans : List ℕ → ℕ → List Lexeme → ℕ → Type 0
 Scans text at [] end = end ≡ at
-Scans text at (x ∷ xs) end = (lexeme_at text at ≡ Ok x) × Scans text x.token.to xs end
+Scans text at (x ∷ xs) end = FirstLexeme text at (Ok x) × Scans text x.token.to xs end
 
 -- some sentence begins with the lexemes
 abbrev pub IsViable : (List Lexeme → Type 0) → List Lexeme → Type 0
@@ -39,7 +35,7 @@ IsViable IsSentence lexemes = (more : List Lexeme) × IsSentence (lexemes ++ mor
 pub record Reads (IsSentence : List Lexeme → Type 0) (text : List ℕ) (at : ℕ) (lexemes : List Lexeme) (end : ℕ) : Type 0 where
   pub scanned : Scans text at lexemes end
   pub sentence : IsSentence lexemes
-  pub longest : (next : Lexeme) → lexeme_at text end ≡ Ok next → ¬ (IsViable IsSentence (lexemes ++ next ∷ []))
+  pub longest : (next : Lexeme) → FirstLexeme text end (Ok next) → ¬ (IsViable IsSentence (lexemes ++ next ∷ []))
 
 -- The first fault from `at` on: sentences begin with the lexemes before it, which are none yet, and the next token is bad or no sentence begins with it too.
 -- Misplaced says which fault a lexeme is that cannot stand behind those before it.
@@ -49,7 +45,7 @@ pub record IsFirstFault (Misplaced : List Lexeme → Lexeme → Fault → Type 0
   pub scanned : Scans text at lexemes end
   pub viable : IsViable IsSentence lexemes
   pub unfinished : ¬ (IsSentence lexemes)
-  pub here : (lexeme_at text end ≡ Err fault) ⊎ ((next : Lexeme) × (lexeme_at text end ≡ Ok next) × (IsViable IsSentence (lexemes ++ next ∷ []) → ⊥) × Misplaced lexemes next fault)
+  pub here : FirstLexeme text end (Err fault) ⊎ ((next : Lexeme) × FirstLexeme text end (Ok next) × (IsViable IsSentence (lexemes ++ next ∷ []) → ⊥) × Misplaced lexemes next fault)
 
 -- the answer of a reader: where the sentence ends, or the first fault
 abbrev pub IsAnswerBy : (List Lexeme → Lexeme → Fault → Type 0) → (List Lexeme → Type 0) → List ℕ → ℕ → Result ℕ Fault → Type 0

@@ -1,5 +1,9 @@
 pub mod Bytes
+pub mod Gaps
+pub mod Strings
 pub mod Tokens
-pub mod Numerals
+pub mod Values
+pub mod Sizes
+pub mod Faults
 pub mod Lexemes
 pub mod Parts

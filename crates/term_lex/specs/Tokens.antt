@@ -1,5 +1,5 @@
--- The next token of a text.
-use Rattle.std.specs.Prelude.{◌≡◌, ℕ, suc, ◌+◌, ◌^◌, Bool, true, false, not, ◌==◌, List, [], ◌∷◌, take, drop, Option, Some, None, Result, Ok, Err, nat_lt, EachIndex, slice_index, if◌then◌else◌, ◌<◌, ◌≤◌}
+-- The first token of a text.
+use Rattle.std.specs.Prelude.{◌≡◌, ℕ, ◌+◌, ◌^◌, Bool, true, false, ◌==◌, List, [], ◌∷◌, ◌++◌, length, take, drop, slice_index_or, Option, Some, None, Result, Ok, Err, nat_lt, if◌then◌else◌, ◌<◌, ◌≤◌, ◌⊎◌}
 use Rattle.std.specs.List.{prefix_len}
 use Rattle.std.specs.Char.{is_ascii_digit}
 use Rattle.std.specs.Str.Parse.{digits_value}
@@ -9,13 +9,9 @@ use Rattle.term_lex.specs.declared.token.TokenKind.TheVariants.{Name, Numeral, T
 use Rattle.term_lex.specs.declared.fault.Fault.{Fault}
 use Rattle.term_lex.specs.declared.fault.FaultKind.{FaultKind}
 use Rattle.term_lex.specs.declared.fault.FaultKind.TheVariants.{BadByte, OpenString, BadEscape, NumeralPast, NameLong, StringLong}
-use Rattle.term_lex.specs.Bytes.{is_blank, is_name_start, is_name_byte, is_plain, is_escape, sign_of}
-
--- how many bytes at the front are blanks and comments; in_comment says that a comment is open
-abbrev pub gap_len : Bool → List ℕ → ℕ
-gap_len in_comment [] = 0
-gap_len true (b ∷ bs) = suc (gap_len (not (b == 10)) bs)
-gap_len false (b ∷ bs) = if b == 37 then suc (gap_len true bs) else (if is_blank b then suc (gap_len false bs) else 0)
+use Rattle.term_lex.specs.Bytes.{is_name_start, is_name_byte, is_plain, is_escape, sign_of}
+use Rattle.term_lex.specs.Gaps.{IsGap}
+use Rattle.term_lex.specs.Strings.{spelled, AreTextBytes}
 
 -- a token of so many bytes
 abbrev pub token : TokenKind → ℕ → ℕ → Result Token Fault
@@ -25,15 +21,17 @@ token kind from len = Ok (record { kind = kind; from = from; to = from + len })
 abbrev pub fault : FaultKind → ℕ → Result Token Fault
 fault kind byte = Err (record { kind = kind; byte = byte })
 
--- a name takes as many bytes as it can
+-- the bytes are a name: a letter or `_`, then letters, digits and `_`, at most 255 of them
+pub record IsName (bytes : List ℕ) : Type 0 where
+  pub starts : is_name_start (slice_index_or bytes 0 0) ≡ true
+  pub goes_on : prefix_len is_name_byte bytes ≡ length bytes
+  pub fits : length bytes ≤ 255
+
+-- a name takes as many bytes as it can, and may have 255
 abbrev pub name_of : ℕ → List ℕ → Result Token Fault
 name_of from bytes =
     let len = prefix_len is_name_byte bytes in
     if nat_lt 255 len then fault NameLong from else token Name from len
-
--- each byte is a digit
-abbrev pub AllDigits : List ℕ → Type 0
-AllDigits bytes = EachIndex bytes (λ k. is_ascii_digit (slice_index bytes k) ≡ true)
 
 -- the numbers from -2^127 to 2^127 - 1, by their sign and size
 abbrev pub is_in_range : Bool → ℕ → Bool
@@ -55,37 +53,56 @@ abbrev pub one_byte : ℕ → Option TokenKind → Result Token Fault
 one_byte from (Some kind) = token kind from 1
 one_byte from None = fault BadByte from
 
--- one more element of a string, unless that is the 65,536th
-abbrev pub element : ℕ → ℕ → Result Token Fault → Result Token Fault
-element from used rest = if nat_lt used 65535 then rest else fault StringLong from
-
--- the string that begins at `from`: `len` bytes of it, with `used` elements, stand before these bytes, and a backslash if `escaped`
-abbrev pub string_of : ℕ → ℕ → ℕ → Bool → List ℕ → Result Token Fault
-string_of from len used escaped [] = fault OpenString from
-string_of from len used true (b ∷ bs) =
-    if is_escape b then element from used (string_of from (len + 2) (used + 1) false bs)
-    else (if b == 10 then fault OpenString from
-    else fault BadEscape (from + len))
-string_of from len used false (b ∷ bs) =
-    if b == 34 then token Text from (len + 1)
-    else (if b == 92 then string_of from len used true bs
-    else (if b == 10 then fault OpenString from
-    else (if is_plain b then element from used (string_of from (len + 1) (used + 1) false bs)
-    else fault BadByte (from + len))))
-
--- the token that begins at `from`, where these are the bytes from there on
-unfoldable pub token_of : ℕ → List ℕ → Result Token Fault
-token_of from [] = token End from 0
-token_of from (b ∷ bs) =
+-- the token that begins at `from`, where these are the bytes from there on and the first is no quote
+abbrev pub plain_token : ℕ → List ℕ → Result Token Fault
+plain_token from [] = token End from 0
+plain_token from (b ∷ bs) =
     if is_name_start b then name_of from (b ∷ bs)
     else (if is_ascii_digit b then numeral_of false from 0 (b ∷ bs)
     else (if b == 45 then minus_of from bs
-    else (if b == 34 then string_of from 1 0 false bs
-    else one_byte from (sign_of b))))
+    else one_byte from (sign_of b)))
 
--- the first token from `at` on, or its fault
-unfoldable pub token_at : List ℕ → ℕ → Result Token Fault
-token_at text at = let from = at + gap_len false (drop at text) in token_of from (drop from text)
+-- what a backslash comes to, `len` bytes behind the string's first, if it begins no escape before these bytes
+abbrev pub escape_end : ℕ → ℕ → List ℕ → Option (Result Token Fault)
+escape_end from len [] = Some (fault OpenString from)
+escape_end from len (b ∷ bs) =
+    if is_escape b then None
+    else (if b == 10 then Some (fault OpenString from)
+    else Some (fault BadEscape (from + len)))
+
+-- what the string from `from` on comes to, `len` bytes behind its first, if none of its elements begins these bytes
+abbrev pub string_end : ℕ → ℕ → List ℕ → Option (Result Token Fault)
+string_end from len [] = Some (fault OpenString from)
+string_end from len (b ∷ bs) =
+    if b == 34 then Some (token Text from (len + 1))
+    else (if b == 10 then Some (fault OpenString from)
+    else (if b == 92 then escape_end from len bs
+    else (if is_plain b then None
+    else Some (fault BadByte (from + len)))))
+
+-- a quote, then elements for the bytes of a value; the 65,536th is one too many, else the string ends where no other element follows
+pub record BeginsString (from : ℕ) (bytes : List ℕ) (answer : Result Token Fault) : Type 0 where
+  pub value : List ℕ
+  pub rest : List ℕ
+  pub quoted : bytes ≡ 34 ∷ (spelled value ++ rest)
+  pub holds : AreTextBytes value
+  pub ends :
+      ((length value ≡ 65536) × (answer ≡ fault StringLong from))
+      ⊎ ((length value ≤ 65535) × (string_end from (1 + length (spelled value)) rest ≡ Some answer))
+
+-- the first byte is a quote
+abbrev pub IsQuoted : List ℕ → Type 0
+IsQuoted bytes = (bs : List ℕ) × (bytes ≡ 34 ∷ bs)
+
+-- what the bytes, which stand at `from`, begin with: a string or another token, or the fault of one
+abbrev pub Begins : ℕ → List ℕ → Result Token Fault → Type 0
+Begins from bytes answer = BeginsString from bytes answer ⊎ ((¬ IsQuoted bytes) × (answer ≡ plain_token from bytes))
+
+-- the first token of a text from `at` on, or its fault, behind blanks and comments
+pub record FirstToken (text : List ℕ) (at : ℕ) (answer : Result Token Fault) : Type 0 where
+  pub gap : ℕ
+  pub skipped : IsGap (drop at text) gap
+  pub begins : Begins (at + gap) (drop (at + gap) text) answer
 
 -- the token has at least one byte, but for the end, and ends within the bytes
 pub record IsWithin (from end : ℕ) (t : Token) : Type 0 where

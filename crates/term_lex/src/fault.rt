@@ -1,3 +1,6 @@
+ghost use Rattle.std.specs.Prelude.{◌≡◌};
+ghost use Rattle.term_lex.specs.Faults.{fault_number, fault_word};
+
 use crate::token::TokenKind;
 
 /// What is wrong with a text.
@@ -22,6 +25,8 @@ pub enum FaultKind {
     },
     /// The text ends where more is needed.
     Unended,
+    /// A term has more than 2^24 bytes.
+    TermLong,
     /// A name is declared or included already.
     Twice,
     /// An arity lies outside 0 to 255.
@@ -59,6 +64,74 @@ pub enum FaultKind {
     QualifiedTwice,
     /// The file uses a part of the language that this version does not take.
     NotYet,
+}
+
+impl FaultKind {
+    /// The fault's number, which stays the same in every version.
+    pub fn number(&self) -> u8
+        ensures { result ≡ fault_number self.now }
+    {
+        match self {
+            FaultKind::BadByte => 1,
+            FaultKind::OpenString => 2,
+            FaultKind::BadEscape => 3,
+            FaultKind::NumeralPast => 4,
+            FaultKind::NameLong => 5,
+            FaultKind::StringLong => 6,
+            FaultKind::Expected { .. } => 10,
+            FaultKind::Unended => 11,
+            FaultKind::TermLong => 14,
+            FaultKind::Twice => 20,
+            FaultKind::ArityPast => 21,
+            FaultKind::UnknownClass => 22,
+            FaultKind::Unknown => 23,
+            FaultKind::WrongArity { .. } => 24,
+            FaultKind::NotIncluded => 25,
+            FaultKind::FileLong => 30,
+            FaultKind::EquationsPast => 31,
+            FaultKind::UnknownEquationClass => 32,
+            FaultKind::LeftNotApplication => 33,
+            FaultKind::VariableTwice => 34,
+            FaultKind::QualifiedUnknown => 35,
+            FaultKind::SideLong => 36,
+            FaultKind::SchemaNeeds => 37,
+            FaultKind::QualifiedTwice => 38,
+            FaultKind::NotYet => 50,
+        }
+    }
+
+    /// The fault's name, as messages tell it.
+    pub fn word(&self) -> &'static str
+        ensures { result.now ≡ fault_word self.now }
+    {
+        match self {
+            FaultKind::BadByte => "BadByte",
+            FaultKind::OpenString => "OpenString",
+            FaultKind::BadEscape => "BadEscape",
+            FaultKind::NumeralPast => "NumeralPast",
+            FaultKind::NameLong => "NameLong",
+            FaultKind::StringLong => "StringLong",
+            FaultKind::Expected { .. } => "Expected",
+            FaultKind::Unended => "Unended",
+            FaultKind::TermLong => "TermLong",
+            FaultKind::Twice => "Twice",
+            FaultKind::ArityPast => "ArityPast",
+            FaultKind::UnknownClass => "UnknownClass",
+            FaultKind::Unknown => "Unknown",
+            FaultKind::WrongArity { .. } => "WrongArity",
+            FaultKind::NotIncluded => "NotIncluded",
+            FaultKind::FileLong => "FileLong",
+            FaultKind::EquationsPast => "EquationsPast",
+            FaultKind::UnknownEquationClass => "UnknownEquationClass",
+            FaultKind::LeftNotApplication => "LeftNotApplication",
+            FaultKind::VariableTwice => "VariableTwice",
+            FaultKind::QualifiedUnknown => "QualifiedUnknown",
+            FaultKind::SideLong => "SideLong",
+            FaultKind::SchemaNeeds => "SchemaNeeds",
+            FaultKind::QualifiedTwice => "QualifiedTwice",
+            FaultKind::NotYet => "NotYet",
+        }
+    }
 }
 
 /// A fault and the byte at which it stands.

@@ -4,12 +4,14 @@
 mod fault;
 mod numeral;
 mod scan;
+mod string;
 mod syntax;
 mod token;
 
 pub use fault::{Fault, FaultKind};
 pub use numeral::numeral_value;
 pub use scan::next_token;
+pub use string::string_value;
 pub use syntax::Syntax;
 pub use token::{Token, TokenKind};
 

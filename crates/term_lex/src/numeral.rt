@@ -1,35 +1,59 @@
-ghost use Rattle.std.specs.Prelude.{◌≡◌, ◌≤◌, ◌<◌, ◌^◌, MatchOption, true, slice_range};
-ghost use Rattle.std.specs.Str.Parse.{digits_value};
-ghost use Rattle.term_lex.specs.Tokens.{is_in_range, AllDigits};
-ghost use Rattle.term_lex.specs.Numerals.{signed, numeral_value, IsNumeral, IsNumeralOf};
+ghost use Rattle.std.specs.Prelude.{◌≡◌, ℕ, ◌+◌, ◌*◌, ◌-◌, ◌≤◌, ◌<◌, ◌^◌, length, take, true, slice_range};
+ghost use Rattle.std.specs.List.{prefix_len};
+ghost use Rattle.std.specs.Char.{is_ascii_digit};
+ghost use Rattle.std.specs.Str.Parse.{AllDigits, digits_value};
+ghost use Rattle.term_lex.specs.Tokens.{is_in_range};
+ghost use Rattle.term_lex.specs.Values.{signed, numeral_value, IsNumeral, IsNumeralOf};
+ghost use Rattle.term_lex.specs.Sizes.{IsSize};
 
 use crate::token::Token;
 
 /// The size of the least numeral, -2^127.
 const LARGEST: u128 = 1 << 127;
 
-/// The number that the digits write, or `None` past 2^127.
-fn size_of_digits(digits: &[u8]) -> Option<u128>
-    requires { AllDigits digits.now }
-    ensures { MatchOption result (2 ^ 127 < digits_value 10 digits.now)
-        (λ n. (n ≡ digits_value 10 digits.now) × (n ≤ 2 ^ 127)) }
+/// The digits at the front of some bytes.
+#[derive(Clone, Copy, Drop)]
+pub struct Digits {
+    /// How many there are.
+    pub len: usize,
+    /// The number that they write, or `None` past 2^127.
+    pub size: Option<u128>,
+}
+
+/// The number with one more digit behind it, or `None` past 2^127.
+fn with_digit(size: Option<u128>, digit: u8) -> Option<u128>
+    requires { is_ascii_digit digit ≡ true }
+    ensures { (n : ℕ) → IsSize n size → IsSize (n * 10 + (digit - 48)) result }
 {
-    let mut size: u128 = 0;
-    for digit in digits {
-        if size > LARGEST / 10 {
-            return None;
-        }
-        size = size * 10 + (*digit - b'0') as u128;
-    }
+    let size = size.filter(|size| *size <= LARGEST / 10)? * 10 + u128::from(digit - b'0');
     if size > LARGEST { None } else { Some(size) }
 }
 
-/// Whether the digits write a numeral of 128 bits with this sign.
-pub fn fits(negative: bool, digits: &[u8]) -> bool
-    requires { AllDigits digits.now }
-    ensures { result ≡ is_in_range negative (digits_value 10 digits.now) }
+/// The digits at the front, each read once.
+pub fn read_digits(bytes: &[u8]) -> Digits
+    ensures len { result.len ≡ prefix_len is_ascii_digit bytes.now }
+    ensures within { result.len ≤ length bytes.now }
+    ensures size { IsSize (digits_value 10 (take result.len bytes.now)) result.size }
 {
-    match size_of_digits(digits) {
+    let mut digits = Digits {
+        len: 0,
+        size: Some(0),
+    };
+    for byte in bytes {
+        if !byte.is_ascii_digit() {
+            break;
+        }
+        digits.size = with_digit(digits.size, *byte);
+        digits.len += 1;
+    }
+    digits
+}
+
+/// Whether a number of this sign and size is a numeral.
+pub fn fits(negative: bool, size: Option<u128>) -> bool
+    ensures { (n : ℕ) → IsSize n size → result ≡ is_in_range negative n }
+{
+    match size {
         Some(size) => negative || size < LARGEST,
         None => false,
     }
@@ -51,11 +75,11 @@ fn signed(negative: bool, size: u128) -> i128
 
 /// The number that digits of this sign write.
 fn value_of_digits(negative: bool, digits: &[u8]) -> i128
-    requires digits { AllDigits digits.now }
+    requires digits { AllDigits 10 digits.now }
     requires in_range { is_in_range negative (digits_value 10 digits.now) ≡ true }
     ensures { result ≡ signed negative (digits_value 10 digits.now) }
 {
-    match size_of_digits(digits) {
+    match read_digits(digits).size {
         Some(size) => signed(negative, size),
         None => unreachable!(),
     }

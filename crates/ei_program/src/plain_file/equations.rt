@@ -1,6 +1,7 @@
 // The section of equations.
 ghost use Rattle.std.specs.Prelude.{◌≡◌, ◌+◌, ◌≤◌, true, length, IfOk};
 ghost use Rattle.eq_base.specs.Tree.{size};
+ghost use Rattle.symbol_table.specs.Table.{Keeps};
 ghost use Rattle.standmath.specs.Reading.{ReadsPattern};
 ghost use Rattle.ei_program.specs.PlainFile.{IsApplication};
 ghost use Rattle.ei_program.specs.PlainReading.{TakesEquation, TakesEquations};
@@ -42,11 +43,11 @@ fn take_side(
     most: usize,
 ) -> Result<(Pattern, usize), PlainError>
     requires { at ≤ length text.now }
-    ensures read { IfOk result (λ side. ReadsPattern symbols.old variables.now text.now at side.0 side.1) }
+    ensures read { IfOk result (λ side. ReadsPattern symbols.new variables.now text.now at side.0 side.1) }
     ensures fits { IfOk result (λ side. size side.0 ≤ most) }
     ensures further { IfOk result (λ side. at ≤ side.1) }
     ensures within { IfOk result (λ side. side.1 ≤ length text.now) }
-    ensures declared { symbols.new.declared ≡ symbols.old.declared }
+    ensures keeps { Keeps symbols.old symbols.new }
 {
     let (pattern, end) = read_pattern(alloc, symbols, variables, text, at)?;
     if pattern.len() > most {
@@ -65,10 +66,10 @@ fn take_equation(
     number: u32,
 ) -> Result<(Equation, usize), PlainError>
     requires { at ≤ length text.now }
-    ensures read { IfOk result (λ x. TakesEquation symbols.old variables.now number text.now at x.0 x.1) }
+    ensures read { IfOk result (λ x. TakesEquation symbols.new variables.now number text.now at x.0 x.1) }
     ensures further { IfOk result (λ x. at ≤ x.1) }
     ensures within { IfOk result (λ x. x.1 ≤ length text.now) }
-    ensures declared { symbols.new.declared ≡ symbols.old.declared }
+    ensures keeps { Keeps symbols.old symbols.new }
 {
     let (left, equals) = take_side(alloc, text, at, symbols, variables, LEFT_CELLS)?;
     if !is_application(&left) {
@@ -98,10 +99,10 @@ pub fn take_equations(
 ) -> Result<usize, PlainError>
     requires within { at ≤ length text.now }
     requires few { length rules.old ≤ 2048 }
-    ensures read { IfOk result (TakesEquations symbols.old variables.now text.now at rules.old rules.new) }
+    ensures read { IfOk result (TakesEquations symbols.new variables.now text.now at rules.old rules.new) }
     ensures few { length rules.new ≤ 2048 }
     ensures within { IfOk result (λ end. end ≤ length text.now) }
-    ensures declared { symbols.new.declared ≡ symbols.old.declared }
+    ensures keeps { Keeps symbols.old symbols.new }
 {
     let mut at = at;
     loop {

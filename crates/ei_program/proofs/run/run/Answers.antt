@@ -18,6 +18,6 @@ returns-in-Ok-clause-left g c = λ named bytes known is.
     let given : Given = record { words = map string_bytes c.args.words.now; named = named; input = bytes } in
     let left = c.answer_input.ensures.left bytes is in (
       left.0,
-      accepted given c.in-Some.name.now (definitions_of c.in-Ok.plain) (g.I.Source.left c.answer_input.new.input) c.answer_input.result left.0 c.in-Some.ensures.named (c.in-Ok.ensures.loaded named known) left.1,
+      accepted given c.in-Some.name.now (definitions_of c.in-Ok.plain) (definitions_of c.answer_input.new.plain) (g.I.Source.left c.answer_input.new.input) c.answer_input.result left.0 c.in-Some.ensures.named (c.in-Ok.ensures.loaded named known) c.answer_input.ensures.grows left.1,
       left.2,
     )

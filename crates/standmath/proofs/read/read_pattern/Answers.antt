@@ -1,16 +1,7 @@
-use Rattle.std.proofs.Common.{◌∙◌, ap, map}
-use Rattle.standmath.specs.Mentions.{seen}
-use Rattle.standmath.proofs.Meanings.{means_written}
+use Rattle.standmath.specs.Refusing.{IsPatternAt}
+use Rattle.standmath.proofs.Answering.{one_answer_as}
+use Rattle.standmath.proofs.OneReading.{one_pattern_at}
 use Rattle.standmath.proofs.read.read_pattern.Goals as goal
 
-pub returns-clause-ok : goal.returns-clause-ok
-returns-clause-ok c =
-    let text = c.args.text.now in
-    let m = c.in_ok-mentions.ensures.ok in
-    record {
-      written = m.written;
-      lexemes = m.lexemes;
-      reads = m.reads;
-      spelled = m.spelled;
-      means = means_written c.args.symbols.now c.args.variables.now m.written c.in_ok-pattern.pattern (map (seen text) c.deref.result.now) (ap (map (seen text)) c.deref.ensures.value ∙ m.outlined) c.in_ok-pattern.ensures.ok;
-    }
+pub returns-clause-only : goal.returns-clause-only
+returns-clause-only c = λ one distinct other is. one_answer_as (IsPatternAt c.pattern_at.new.symbols c.args.variables.now c.args.text.now c.args.at) (one_pattern_at c.pattern_at.new.symbols one c.args.text.now c.args.at c.args.variables.now distinct) _ other c.pattern_at.ensures.answer is

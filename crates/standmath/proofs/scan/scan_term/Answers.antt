@@ -13,26 +13,26 @@ tokens-init c = reached_start c.args.text.now c.args.at c.new-met.result c.requi
 pub tokens-preserved : goal.tokens-preserved
 tokens-preserved c =
     let step : step_of c.tokens.place c.in-Ok.token.kind (not (is_closed c.tokens.met.open_heads)) ≡ Some c.in-Some.next = cc in
-    (reached_step _ _ _ _ _ c.tokens.invariant c.in-Some.next c.take.new.self c.in-Ok.token (sym c.in-Ok.ensures.exact) step c.in_ok-take-in-Some.ensures).0
+    (reached_step _ _ _ _ _ c.tokens.invariant c.in-Some.next c.take.new.self c.in-Ok.token c.in-Ok.ensures.first step c.in_ok-take-in-Some.ensures).0
 
 pub returns-in-None-clause-ok : goal.returns-in-None-clause-ok
 returns-in-None-clause-ok c =
     let stuck : step_of c.tokens.place c.in-Ok.token.kind (not (is_closed c.tokens.met.open_heads)) ≡ None = cc in
     let whole : (is_closed c.tokens.met.open_heads && ends_term c.tokens.place) ≡ true = cc in
-    mentioned _ _ _ _ _ c.tokens.invariant c.finish.result.items c.finish.ensures whole (ends_before _ _ _ _ _ c.tokens.invariant c.in-Ok.token (sym c.in-Ok.ensures.exact) stuck)
+    mentioned _ _ _ _ _ c.tokens.invariant c.finish.result.items c.finish.ensures whole (ends_before _ _ _ _ _ c.tokens.invariant c.in-Ok.token c.in-Ok.ensures.first stuck)
 
 pub returns-in-None-2-clause-err : goal.returns-in-None-2-clause-err
 returns-in-None-2-clause-err c =
     let stuck : step_of c.tokens.place c.in-Ok.token.kind (not (is_closed c.tokens.met.open_heads)) ≡ None = cc in
     let unfinished : (is_closed c.tokens.met.open_heads && ends_term c.tokens.place) ≡ false = cc in
-    subst (IsFirstFault Plainly IsSomeTerm c.args.text.now c.args.at) (sym c.misplaced.ensures) (fault_at_token _ _ _ _ _ c.tokens.invariant c.in-Ok.token unfinished (sym c.in-Ok.ensures.exact) stuck)
+    subst (IsFirstFault Plainly IsSomeTerm c.args.text.now c.args.at) (sym c.misplaced.ensures) (fault_at_token _ _ _ _ _ c.tokens.invariant c.in-Ok.token unfinished c.in-Ok.ensures.first stuck)
 
 pub returns-in-Err-clause-ok : goal.returns-in-Err-clause-ok
 returns-in-Err-clause-ok c =
     let whole : (is_closed c.tokens.met.open_heads && ends_term c.tokens.place) ≡ true = cc in
-    mentioned _ _ _ _ _ c.tokens.invariant c.finish-in-Err.result.items c.finish-in-Err.ensures whole (ends_at _ _ _ _ _ c.tokens.invariant c.in-Err.field-0 (sym c.in-Err.ensures.exact))
+    mentioned _ _ _ _ _ c.tokens.invariant c.finish-in-Err.result.items c.finish-in-Err.ensures whole (ends_at _ _ _ _ _ c.tokens.invariant c.in-Err.field-0 c.in-Err.ensures.first)
 
 pub returns-in-Err-2-clause-err : goal.returns-in-Err-2-clause-err
 returns-in-Err-2-clause-err c =
     let unfinished : (is_closed c.tokens.met.open_heads && ends_term c.tokens.place) ≡ false = cc in
-    fault_in_token _ _ _ _ _ c.tokens.invariant c.in-Err.field-0 unfinished (sym c.in-Err.ensures.exact)
+    fault_in_token _ _ _ _ _ c.tokens.invariant c.in-Err.field-0 unfinished c.in-Err.ensures.first

@@ -1,9 +1,10 @@
 use Rattle.std.proofs.Common.{length, ap, arith}
+use Rattle.symbol_table.specs.Table.{Table}
 use Rattle.symbol_table.proofs.Declarations.{length-declare}
 use Rattle.standmath.proofs.tests.peano.Goals as goal
 
 pub loop-name-init : goal.loop-name-init
-loop-name-init g c = omega (arith, ap length c.new-symbols.ensures)
+loop-name-init g c = omega (arith, ap (λ (t : Table). length t.declared) c.new-symbols.ensures)
 
 pub declare-requires : goal.declare-requires
 declare-requires g c = omega (arith, c.loop-name.invariant, c.loop-name.auto.name-index-end)

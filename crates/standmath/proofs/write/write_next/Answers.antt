@@ -1,4 +1,4 @@
-use Rattle.std.proofs.Common.{◌≡◌, ◌+◌, ◌∷◌, ◌++◌, reverse, ap, sym, ◌∙◌, subst, length, append_assoc, arith}
+use Rattle.std.proofs.Common.{◌≡◌, ℕ, List, ◌+◌, ◌∷◌, ◌++◌, reverse, ap, sym, ◌∙◌, subst, length, append_assoc, arith}
 use Rattle.std.proofs.lemmas.Result.{on_ok_weaker}
 use Rattle.eq_base.specs.Tree.{head_of, arity_of}
 use Rattle.eq_base.specs.View.{tree_at, IsArgument}
@@ -49,7 +49,7 @@ pub returns-clause-text : goal.returns-clause-text
 returns-clause-text g c =
     let trees = g.T.TermView.trees c.args.view.now in
     let head = head_text c.args.symbols.now (head_of (tree_at trees c.arg-argument.result)) in
-    let written = c.in_ok-write_head.ensures.ok ∙ ap (λ h. c.write_before.new.into.items ++ head_text c.args.symbols.now h) c.head.ensures in
+    let written : c.write_head.new.into.items ≡ c.write_before.new.into.items ++ head = ◌∙◌ {A = List ℕ} c.in_ok-write_head.ensures.ok (ap (λ h. c.write_before.new.into.items ++ head_text c.args.symbols.now h) c.head.ensures) in
     written-left c.args.into.now.items c.write_before.new.into.items c.write_head.new.into.items (text_before c.args.innermost.written) head _ _ c.in_ok-write_before.ensures.ok written (parts g c)
 
 pub returns-clause-opens : goal.returns-clause-opens

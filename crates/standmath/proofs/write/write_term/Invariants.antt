@@ -1,6 +1,7 @@
 use Rattle.std.proofs.Common.{◌≡◌, ◌++◌, reverse}
 use Rattle.eq_base.specs.View.{tree_at}
-use Rattle.standmath.specs.Printing.{print, IsFront}
+use Rattle.standmath.specs.Printing.{print}
+use Rattle.symbol_table.specs.Table.{IsFront}
 use Rattle.standmath.specs.Writing.{text_left, steps_left, AreOpen}
 use Rattle.standmath.proofs.write.write_term.Given as goal
 

@@ -1,4 +1,4 @@
-use Rattle.std.proofs.Common.{◌≡◌, ℕ, List, true, refl, subst, rules}
+use Rattle.std.proofs.Common.{◌≡◌, ℕ, List, true, refl, rules}
 use Rattle.eq_base.specs.Tree.{Tree}
 use Rattle.eq_base.specs.Pattern.{PatternCell}
 use Rattle.eq_base.specs.declared.head.Head.{Head}
@@ -6,9 +6,11 @@ use Rattle.term_lex.specs.declared.token.TokenKind.TheVariants.{Equals}
 use Rattle.term_lex.specs.Parts.{IsKind}
 use Rattle.symbol_table.specs.Table.{Table}
 use Rattle.standmath.specs.Terms.{IsTerm}
+use Rattle.standmath.specs.Meaning.{outline}
 use Rattle.standmath.specs.Reading.{ReadsPattern}
 use Rattle.ei_program.specs.PlainReading.{IsRead}
-use Rattle.ei_program.proofs.PlainReadings.{same_table, one_read, then_read}
+use Rattle.ei_program.proofs.Growing.{still_means_tree}
+use Rattle.ei_program.proofs.PlainReadings.{one_read, then_read}
 use Rattle.ei_program.proofs.plain_file.equations.take_equation.Goals as goal
 
 -- a side as a part of the equation
@@ -22,12 +24,12 @@ returns-clause-read c =
     let variables = c.args.variables.now in
     let sign = c.in_ok-sign.sign in
     let left = c.in_ok-left.ensures.read in
-    let right = subst (λ (t : Table). ReadsPattern t variables text sign.to c.in_ok-right.right c.in_ok-right.end) (same_table _ _ c.in_ok-left.ensures.declared) c.in_ok-right.ensures.read in
+    let right = c.in_ok-right.ensures.read in
     let yes : c.is_application.result ≡ true = search rules in
     record {
       sides = record { left = left.written; right = right.written };
       means = record {
-        left = left.means;
+        left = still_means_tree c.take_side.new.symbols c.take_side-2.new.symbols c.in_ok-right.ensures.keeps variables (outline left.written) c.in_ok-left.left left.means;
         application = c.is_application.ensures yes;
         left_fits = c.in_ok-left.ensures.fits;
         right_side = c.in_ok-right.right;
@@ -36,7 +38,7 @@ returns-clause-read c =
         right_fits = c.in_ok-right.ensures.fits;
         origin = refl;
       };
-      read = then_read text _ _ c.args.at c.in_ok-left.equals c.in_ok-right.end (side_read c.args.symbols.now variables text c.args.at c.in_ok-left.left c.in_ok-left.equals left)
+      read = then_read text _ _ c.args.at c.in_ok-left.equals c.in_ok-right.end (side_read c.take_side.new.symbols variables text c.args.at c.in_ok-left.left c.in_ok-left.equals left)
           (then_read text _ _ c.in_ok-left.equals sign.to c.in_ok-right.end (one_read text (IsKind Equals) c.in_ok-left.equals sign c.in_ok-sign.ensures.next c.in_ok-sign.ensures.kind)
-          (side_read c.args.symbols.now variables text sign.to c.in_ok-right.right c.in_ok-right.end right));
+          (side_read c.take_side-2.new.symbols variables text sign.to c.in_ok-right.right c.in_ok-right.end right));
     }

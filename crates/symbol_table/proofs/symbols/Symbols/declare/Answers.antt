@@ -1,33 +1,38 @@
-use Rattle.std.proofs.Common.{rules, ◌≡◌, [], ◌∷◌, ◌++◌, sym, ap, subst, ◌∙◌, arith}
-use Rattle.symbol_table.specs.Table.{HasName}
-use Rattle.symbol_table.specs.Entries.{table_of, IsTable}
-use Rattle.symbol_table.proofs.LookUps.{insert_last, missing_from}
+use Rattle.std.proofs.Common.{rules, ◌≡◌, [], ◌∷◌, ◌++◌, map, length, sym, ap, subst, ◌∙◌, arith}
+use Rattle.std.proofs.lemmas.List.{length-map}
+use Rattle.symbol_table.specs.Table.{Table, HasName}
+use Rattle.symbol_table.specs.Entries.{declared_of, table_of, IsTable}
+use Rattle.symbol_table.proofs.Numbers.{symbol}
+use Rattle.symbol_table.proofs.LookUps.{declared_of-insert_entry, missing_from}
 use Rattle.symbol_table.proofs.Declarations.{has_found}
-use Rattle.symbol_table.proofs.Pushed.{IsTable-push, table_of-push, length-table_of}
+use Rattle.symbol_table.proofs.Growing.{with_symbol, IsTable-with_symbol}
 use Rattle.symbol_table.proofs.symbols.Symbols.declare.Goals as goal
+use Rattle.symbol_table.proofs.symbols.Symbols.declare.Goals.{In_ok-insert}
 
 pub returns-then-is_some-clause-refused : goal.returns-then-is_some-clause-refused
 returns-then-is_some-clause-refused c =
-    has_found c.args.self.now c.find.ensures.distinct c.args.name.now c.find.result c.find.ensures.declared (sym c.is_some.ensures ∙ c.if-is_some.true)
+    has_found c.args.self.now c.args.name.now c.find.result c.find.ensures.declared (sym c.is_some.ensures ∙ c.if-is_some.true)
 
 -- the name is new
-fresh : (c : goal.In_ok-insert) → ¬ HasName c.args.self.now c.args.name.now
+fresh : (c : In_ok-insert) → ¬ HasName c.args.self.now c.args.name.now
 fresh c = c.find.ensures.none.0 (sym c.is_some.ensures ∙ c.if-is_some.false)
 
-named : (c : goal.In_ok-insert) → c.in_ok-name.name.items ≡ c.args.name.now
-named c = c.in_ok-name.ensures.items_if_clones_equal (λ x y same. same)
+-- so its symbol goes last
+lists : (c : In_ok-insert) → map declared_of c.insert.new.self.entries ≡ map declared_of c.self.inside.arities.entries ++ symbol c.args.name.now c.in-Ok.arity ∷ []
+lists c =
+    ap (map declared_of) c.in_ok-insert.ensures.entries
+    ∙ declared_of-insert_entry c.args.name.now c.in_ok-name.name c.in-Ok.arity (c.in_ok-name.ensures.items_if_clones_equal (λ x y same. same)) c.self.inside.arities.entries
+    (missing_from c.self.inside.arities.entries c.args.self.now (ap (λ (t : Table). t.declared) c.self.view_is) c.args.name.now (fresh c))
 
--- so its entry goes last
-entries : (c : goal.In_ok-insert) → c.insert.new.self.entries ≡ c.self.inside.arities.entries ++ (c.in_ok-name.name, c.in-Ok.arity) ∷ []
-entries c =
-    c.in_ok-insert.ensures.entries
-    ∙ insert_last c.args.name.now c.in_ok-name.name c.in-Ok.arity (named c) c.self.inside.arities.entries
-    (missing_from c.self.inside.arities.entries c.args.self.now c.self.view_is c.args.name.now (fresh c))
+-- and the table has one symbol more
+grown : (c : In_ok-insert) → table_of c.insert.new.self.entries c.self.inside.classes.items c.self.inside.atoms c.self.inside.texts ≡ with_symbol c.args.self.now c.args.name.now c.in-Ok.arity
+grown c =
+    ap (λ declared. record { declared = declared; included = c.self.inside.classes.items; atoms = c.self.inside.atoms; texts = c.self.inside.texts }) (lists c)
+    ∙ ap (λ table. with_symbol table c.args.name.now c.in-Ok.arity) c.self.view_is
 
 pub invariant_of-self-2 : goal.invariant_of-self-2
 invariant_of-self-2 c =
-    subst (λ es. IsTable (table_of es)) (sym (entries c))
-    (IsTable-push c.self.inside.arities.entries c.args.self.now c.self.view_is c.args.name.now c.in_ok-name.name c.in-Ok.arity (named c) c.self.invariant (fresh c) c.requires)
+    subst IsTable (sym (grown c)) (IsTable-with_symbol c.args.self.now c.args.name.now c.in-Ok.arity (subst IsTable c.self.view_is c.self.invariant) (fresh c) c.requires)
 
 pub returns-clause-ok : goal.returns-clause-ok
 returns-clause-ok c = record {
@@ -35,6 +40,6 @@ returns-clause-ok c = record {
   counted = search rules;
   fits = search rules;
   fresh = fresh c;
-  added = ap table_of (entries c) ∙ table_of-push c.self.inside.arities.entries c.args.self.now c.self.view_is c.args.name.now c.in_ok-name.name c.in-Ok.arity (named c);
-  numbered = omega (arith, c.len.ensures.len, length-table_of c.self.inside.arities.entries c.args.self.now c.self.view_is c.args.name.now c.in_ok-name.name c.in-Ok.arity (named c));
+  added = grown c;
+  numbered = omega (arith, c.len.ensures.len, length-map c.self.inside.arities.entries declared_of, ap (λ (t : Table). length t.declared) c.self.view_is);
 }

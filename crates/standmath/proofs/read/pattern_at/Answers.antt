@@ -1,0 +1,16 @@
+use Rattle.std.proofs.Common.{◌∙◌, ap, map}
+use Rattle.standmath.specs.Mentions.{seen}
+use Rattle.standmath.proofs.Meanings.{means_written}
+use Rattle.standmath.proofs.read.pattern_at.Goals as goal
+
+pub returns-clause-answer : goal.returns-clause-answer
+returns-clause-answer c =
+    let text = c.args.text.now in
+    let m = c.in_ok-mentions.ensures.ok in
+    record {
+      written = m.written;
+      lexemes = m.lexemes;
+      reads = m.reads;
+      spelled = m.spelled;
+      means = means_written c.pattern_of.new.symbols c.args.variables.now m.written c.in_ok-pattern.pattern (map (seen text) c.deref.result.now) (ap (map (seen text)) c.deref.ensures.value ∙ m.outlined) c.in_ok-pattern.ensures.ok;
+    }

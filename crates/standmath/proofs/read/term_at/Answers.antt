@@ -1,0 +1,82 @@
+use Rattle.std.proofs.Common.{All, ◌≡◌, ◌++◌, ◌∙◌, ap, refl, map, sym, subst, inl, inr, [], Err, rules}
+use Rattle.eq_base.specs.Tree.{cells, map_heads}
+use Rattle.eq_base.specs.Pattern.{fixed}
+use Rattle.term_lex.specs.declared.token.TokenKind.TheVariants.{Dot}
+use Rattle.term_lex.specs.Lexemes.{IsFirstFault, Plainly}
+use Rattle.term_lex.proofs.Readings.{scans_within, scans_append}
+use Rattle.term_lex.proofs.PlainAnswers.{kind_part, then_err, then_ok}
+use Rattle.standmath.specs.declared.error.ReadError.TheVariants.{Refused}
+use Rattle.standmath.specs.Terms.{IsSomeTerm}
+use Rattle.standmath.specs.Meaning.{outline}
+use Rattle.standmath.specs.Refusing.{IsFirstRefused, RefusesTerm, IsTermAt}
+use Rattle.standmath.specs.Answering.{AnswersRight}
+use Rattle.standmath.specs.Mentions.{seen, IsMention}
+use Rattle.standmath.proofs.Terms.{term_part}
+use Rattle.standmath.proofs.Answering.{refused_as}
+use Rattle.standmath.proofs.Meanings.{means_written}
+use Rattle.standmath.proofs.read.term_at.Goals as goal
+
+pub skip_dot-requires : goal.skip_dot-requires
+skip_dot-requires c = let m = c.in_ok-mentions.ensures.ok in (scans_within c.args.text.now c.args.at m.lexemes c.in_ok-mentions.end c.requires m.reads.scanned).1
+
+pub returns-clause-answer : goal.returns-clause-answer
+returns-clause-answer c =
+    let text = c.args.text.now in
+    let m = c.in_ok-mentions.ensures.ok in
+    let dot = c.in_ok-end.ensures in
+    record {
+      written = m.written;
+      lexemes = m.lexemes ++ dot.0;
+      scanned = scans_append text c.args.at m.lexemes dot.0 c.in_ok-mentions.end c.in_ok-end.end m.reads.scanned dot.1.scanned;
+      spelled = (m.lexemes, dot.0, refl, m.spelled, dot.1.sentence);
+      means = means_written c.term_of.new.symbols [] m.written (map_heads fixed c.in_ok-term.term) (map (seen text) c.deref.result.now) (ap (map (seen text)) c.deref.ensures.value ∙ m.outlined) c.in_ok-term.ensures.ok;
+    }
+
+-- a fault of the term
+pub returns-in_err-mentions-clause-answer : goal.returns-in_err-mentions-clause-answer
+returns-in_err-mentions-clause-answer c =
+    let table = c.args.symbols.now in
+    let text = c.args.text.now in
+    let at = c.args.at in
+    let same : c.from_residual.result ≡ Err c.in_err-mentions.field-0.0 = search rules in
+    let why = refused_as (IsFirstFault Plainly IsSomeTerm text at) (RefusesTerm table text at) (λ f h. inl (then_err term_part (kind_part Dot) refl f h)) c.in_err-mentions.field-0.0 c.in_err-mentions.ensures.err in
+    subst (AnswersRight (IsTermAt table text at)) (sym same) why
+
+-- a fault where the dot should be
+pub returns-in_err-end-clause-answer : goal.returns-in_err-end-clause-answer
+returns-in_err-end-clause-answer c =
+    let table = c.args.symbols.now in
+    let text = c.args.text.now in
+    let at = c.args.at in
+    let f = c.in_err-end.field-0.0 in
+    let m = c.in_ok-mentions.ensures.ok in
+    let same : c.from_residual-in_err-end.result ≡ Err (Refused f) = search rules in
+    let why : RefusesTerm table text at f = inl (then_ok term_part (kind_part Dot) refl c.in_ok-mentions.end (m.lexemes, m.reads) (Err f) c.in_err-end.ensures) in
+    subst (AnswersRight (IsTermAt table text at)) (sym same) why
+
+-- a name or a literal that means nothing
+pub returns-in_err-term-clause-answer : goal.returns-in_err-term-clause-answer
+returns-in_err-term-clause-answer c =
+    let table = c.term_of.new.symbols in
+    let text = c.args.text.now in
+    let at = c.args.at in
+    let m = c.in_ok-mentions.ensures.ok in
+    let dot = c.in_ok-end.ensures in
+    let xs = map (seen text) c.deref.result.now in
+    let outlined : xs ≡ cells (outline m.written) = ap (map (seen text)) c.deref.ensures.value ∙ m.outlined in
+    let same : c.from_residual-in_err-term.result ≡ Err c.in_err-term.field-0.0 = search rules in
+    let why = refused_as (IsFirstRefused table [] xs) (RefusesTerm table text at)
+    (λ f h. inr (record {
+      written = m.written;
+      lexemes = m.lexemes ++ dot.0;
+      end = c.in_ok-end.end;
+      scanned = scans_append text at m.lexemes dot.0 c.in_ok-mentions.end c.in_ok-end.end m.reads.scanned dot.1.scanned;
+      spelled = (m.lexemes, dot.0, refl, m.spelled, dot.1.sentence);
+      refused = subst (λ l. IsFirstRefused table [] l f) outlined h;
+    }))
+    c.in_err-term.field-0.0 c.in_err-term.ensures.refused in
+    subst (AnswersRight (IsTermAt table text at)) (sym same) why
+
+-- each of them stands in the text
+pub term_of-requires-clause-mentions : goal.term_of-requires-clause-mentions
+term_of-requires-clause-mentions c = subst (All (λ m. IsMention c.args.text.now m)) (sym c.deref.ensures.value) c.in_ok-mentions.ensures.ok.inside
