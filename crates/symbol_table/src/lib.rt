@@ -7,6 +7,7 @@ mod interned;
 mod symbols;
 mod variables;
 
+pub use classes::class_named;
 pub use error::SymbolError;
 pub use symbols::{Mark, Symbols};
 pub use variables::Variables;

@@ -1,0 +1,10 @@
+pub mod Readings
+pub mod Rules
+pub mod Tokens
+pub mod Lists
+pub mod Deciding
+pub mod Namings
+pub mod NameFaults
+pub mod Placed
+pub mod Few
+pub mod FileNames

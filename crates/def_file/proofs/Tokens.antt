@@ -1,0 +1,77 @@
+-- The single tokens and terms of a file.
+use Rattle.std.proofs.Common.{◌≡◌, ℕ, ◌≤◌, List, [], ◌∷◌, length, refl, ap, subst, inl, Ok, Err, false}
+use Rattle.term_lex.specs.declared.token.Token.{Token}
+use Rattle.term_lex.specs.declared.token.TokenKind.{TokenKind}
+use Rattle.term_lex.specs.declared.fault.Fault.{Fault}
+use Rattle.term_lex.specs.Tokens.{FirstToken}
+use Rattle.term_lex.specs.Lexemes.{Lexeme, lexeme, Scans, IsAnswer, misplaced}
+use Rattle.term_lex.specs.Parts.{One, BeginsWith, Some, NextIs}
+use Rattle.term_lex.proofs.Marks.{Mark}
+use Rattle.term_lex.proofs.Parts.{IsPart}
+use Rattle.term_lex.proofs.Readings.{lexeme_found, one_lexeme, no_lexeme}
+use Rattle.term_lex.proofs.PlainAnswers.{kind_ok, kind_bad, kind_misplaced, answer_within}
+use Rattle.term_lex.proofs.ListAnswers.{same_answer}
+use Rattle.standmath.specs.Terms.{IsSomeTerm}
+use Rattle.standmath.specs.Answering as terms
+use Rattle.standmath.specs.declared.error.ReadError.{ReadError}
+use Rattle.standmath.specs.declared.error.ReadError.TheVariants.{Refused, NoMemory}
+use Rattle.standmath.proofs.Terms.{term_part}
+use Rattle.def_file.specs.Errors.{of_read}
+use Rattle.def_file.specs.Grammar.{IsToken, IsTermFrom}
+use Rattle.def_file.specs.Reading.{IsReadAs, IsRefused}
+use Rattle.def_file.proofs.Rules.{token_to, token_from, term_to, term_from}
+
+module _ (text : List ℕ) (at : ℕ) where
+  -- the next lexeme is that of the next token
+  pub next_passes : (Test : Lexeme → Type 0) (t : Token) → FirstToken text at (Ok t) → NextIs Test text at → Test (lexeme text t)
+  next_passes Test t first (x, found, is) = subst Test (one_lexeme text at x (lexeme text t) found (lexeme_found text at t first)) is
+
+  pub next_bad : (Test : Lexeme → Type 0) (f : Fault) → FirstToken text at (Err f) → NextIs Test text at → ⊥
+  next_bad Test f bad (x, found, is) = no_lexeme text at x f found bad
+
+  pub next_found : (Test : Lexeme → Type 0) (t : Token) → FirstToken text at (Ok t) → Test (lexeme text t) → NextIs Test text at
+  next_found Test t first is = (lexeme text t, lexeme_found text at t first, is)
+
+  -- a lexeme that passes a test
+  pub one_read : (Test : Lexeme → Type 0) (t : Token) → FirstToken text at (Ok t) → Test (lexeme text t) → t.to ≤ length text → IsAnswer (One Test) text at (Ok t.to) → IsReadAs (One Test) (One Test) text at t.to
+  one_read Test t first is within answer = record {
+    answer = answer;
+    form = (lexeme text t ∷ [], (lexeme_found text at t first, refl), (lexeme text t, refl, is));
+    within = within;
+  }
+
+  pub token_read : (k : TokenKind) (t : Token) → FirstToken text at (Ok t) → t.kind ≡ k → t.to ≤ length text → IsReadAs (Some (IsToken k)) (IsToken k t) text at t.to
+  token_read k t first is within = record {
+    answer = same_answer token_to token_from text at (Ok t.to) (kind_ok text at k t first is);
+    form = (lexeme text t ∷ [], (lexeme_found text at t first, refl), (lexeme text t, refl, (is, refl)));
+    within = within;
+  }
+
+  pub token_bad : (k : TokenKind) (f : Fault) → FirstToken text at (Err f) → IsAnswer (Some (IsToken k)) text at (Err f)
+  token_bad k f bad = same_answer token_to token_from text at (Err f) (kind_bad text at k f bad)
+
+  pub token_misplaced : (k : TokenKind) (t : Token) → FirstToken text at (Ok t) → (t.kind ≡ k → ⊥) → IsAnswer (Some (IsToken k)) text at (Err (misplaced t))
+  token_misplaced k t first other = same_answer token_to token_from text at (Err (misplaced t)) (kind_misplaced text at k t first other)
+
+  -- a part whose first token is bad
+  pub first_bad : {G : List Lexeme → Type 0} {first more : List Mark} → IsPart G false first more → (f : Fault) → FirstToken text at (Err f) → IsAnswer G text at (Err f)
+  first_bad {G = G} p f bad = record { lexemes = []; end = at; scanned = refl; viable = (p.some, p.some_is); unfinished = no_part; here = inl bad } where
+    no_part : G [] → ⊥
+    no_part g = let no = p.empty g in cc
+
+  pub term_bad : (f : Fault) → FirstToken text at (Err f) → IsAnswer (Some IsTermFrom) text at (Err f)
+  term_bad f bad = same_answer term_to term_from text at (Err f) (first_bad term_part f bad)
+
+  pub term_refused : (e : ReadError) → terms.IfRefused (λ fault. IsAnswer IsSomeTerm text at (Err fault)) e → IsRefused (Some IsTermFrom) text at (of_read e)
+  term_refused (Refused f) a = same_answer term_to term_from text at (Err f) a
+  term_refused NoMemory a = tt
+
+  pub term_read : (t : Token) (end : ℕ) → FirstToken text at (Ok t) → at ≤ length text → IsAnswer IsSomeTerm text at (Ok end) → IsReadAs (Some IsTermFrom) (IsTermFrom t.from) text at end
+  term_read t end first le (xs, r) = record {
+    answer = same_answer term_to term_from text at (Ok end) (xs, r);
+    form = (xs, r.scanned, (begins xs r.scanned r.sentence, r.sentence));
+    within = answer_within IsSomeTerm text at end le (xs, r);
+  } where
+    begins : (xs : List Lexeme) → Scans text at xs end → IsSomeTerm xs → BeginsWith (λ x. x.token.from ≡ t.from) xs
+    begins [] s g = let no = term_part.empty g in cc
+    begins (x ∷ xs) (found, s) g = ap (λ (y : Lexeme). y.token.from) (one_lexeme text at x (lexeme text t) found (lexeme_found text at t first))

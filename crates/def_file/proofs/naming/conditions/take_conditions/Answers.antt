@@ -1,0 +1,52 @@
+use Rattle.std.proofs.Common.{◌≡◌, ℕ, ◌<◌, ◌+◌, List, ◌∷◌, ◌++◌, [], Err, rules, map, take, drop, length, ap, get_or, subst, sym, ◌∙◌, add-one}
+use Rattle.std.proofs.lemmas.List.{drop_all, map-append}
+use Rattle.std.proofs.Math.Seq.{take-suc}
+use Rattle.symbol_table.proofs.Keeping.{keeps_refl, keeps_trans}
+use Rattle.def_file.specs.declared.tree.Condition.{Condition}
+use Rattle.def_file.specs.Views.{condition, restriction}
+use Rattle.def_file.specs.Names.{Place, Qualified, restriction_places, condition_places}
+use Rattle.def_file.specs.Naming.{IsPlaced, ArePlaced, knowing, qualified_names}
+use Rattle.def_file.proofs.Namings.{drop-next, all_split, none_taken, more_taken, one_refused, all_taken, taking_refused}
+use Rattle.def_file.proofs.naming.conditions.take_conditions.Goals as goal
+
+-- the places of the conditions from a number on
+abbrev places_from : List Condition → ℕ → List Place
+places_from cs i = condition_places (qualified_names (take i cs)) (map condition (drop i cs))
+
+-- the places of the condition with a number
+abbrev places_at : List Condition → ℕ → Condition → List Place
+places_at cs i c = Qualified (qualified_names (take i cs)) c.variable ∷ restriction_places (restriction c.restriction)
+
+next_condition : (cs : List Condition) (i : ℕ) (c : Condition) → c ≡ get_or cs i c → i < length cs → places_from cs i ≡ places_at cs i c ++ places_from cs (i + 1)
+next_condition cs i c is h =
+    let rest : drop i cs ≡ c ∷ drop (i + 1) cs = drop-next cs i c h ∙ ap (λ x. x ∷ drop (i + 1) cs) (sym is) in
+    let front : take (i + 1) cs ≡ take i cs ++ c ∷ [] = ap (λ k. take k cs) (add-one i) ∙ take-suc cs i c h ∙ ap (λ x. take i cs ++ x ∷ []) (sym is) in
+    let names : qualified_names (take (i + 1) cs) ≡ qualified_names (take i cs) ++ c.variable ∷ [] = ap qualified_names front ∙ map-append (λ (x : Condition). x.variable) (take i cs) (c ∷ []) in
+    ap (λ xs. condition_places (qualified_names (take i cs)) (map condition xs)) rest ∙ ap (λ ns. places_at cs i c ++ condition_places ns (map condition (drop (i + 1) cs))) (sym names)
+
+pub loop-i-init : goal.loop-i-init
+loop-i-init c = record { under_way = λ operations. none_taken c.args.text.now _ _; placed = c.requires.placed; keeps = keeps_refl _ }
+
+pub take_condition-requires : goal.take_condition-requires
+take_condition-requires c = record { placed = (all_split (IsPlaced c.args.text.now) (places_at c.args.conditions.now c.loop-i.i c.index-conditions-i.result) (places_from c.args.conditions.now (c.loop-i.i + 1)) (subst (ArePlaced c.args.text.now) (next_condition c.args.conditions.now c.loop-i.i c.index-conditions-i.result c.index-conditions-i.is c.loop-i-test.true) c.loop-i.invariant.placed)).0 }
+
+pub returns-in_err-condition-clause-taking : goal.returns-in_err-condition-clause-taking
+returns-in_err-condition-clause-taking c = λ operations.
+    let same : c.from_residual.result ≡ Err c.in_err-condition.field-0.0 = search rules in
+    taking_refused c.args.text.now (knowing c.args.symbols.now c.args.variables.now operations) (knowing c.take_condition.new.symbols c.args.variables.now operations) (condition_places [] (map condition c.args.conditions.now)) c.from_residual.result c.in_err-condition.field-0.0 same (one_refused c.args.text.now (knowing c.args.symbols.now c.args.variables.now operations) (knowing c.loop-i.symbols c.args.variables.now operations) (condition_places [] (map condition c.args.conditions.now)) (places_from c.args.conditions.now c.loop-i.i) (places_at c.args.conditions.now c.loop-i.i c.index-conditions-i.result) (places_from c.args.conditions.now (c.loop-i.i + 1)) (next_condition c.args.conditions.now c.loop-i.i c.index-conditions-i.result c.index-conditions-i.is c.loop-i-test.true) (c.loop-i.invariant.under_way operations) c.in_err-condition.field-0.0 (c.in_err-condition.ensures.taking operations))
+
+pub returns-in_err-condition-clause-keeps : goal.returns-in_err-condition-clause-keeps
+returns-in_err-condition-clause-keeps c = keeps_trans _ _ _ c.loop-i.invariant.keeps c.take_condition.ensures.keeps
+
+pub returns-in_err-push-clause-keeps : goal.returns-in_err-push-clause-keeps
+returns-in_err-push-clause-keeps c = keeps_trans _ _ _ c.loop-i.invariant.keeps c.take_condition.ensures.keeps
+
+pub loop-i-preserved : goal.loop-i-preserved
+loop-i-preserved c = record {
+  under_way = λ operations. more_taken c.args.text.now (knowing c.args.symbols.now c.args.variables.now operations) (knowing c.loop-i.symbols c.args.variables.now operations) (condition_places [] (map condition c.args.conditions.now)) (places_from c.args.conditions.now c.loop-i.i) (places_at c.args.conditions.now c.loop-i.i c.index-conditions-i.result) (places_from c.args.conditions.now (c.loop-i.i + 1)) (next_condition c.args.conditions.now c.loop-i.i c.index-conditions-i.result c.index-conditions-i.is c.loop-i-test.true) (c.loop-i.invariant.under_way operations) (knowing c.take_condition.new.symbols c.args.variables.now operations) (c.in_ok-condition.ensures.taking operations);
+  placed = (all_split (IsPlaced c.args.text.now) (places_at c.args.conditions.now c.loop-i.i c.index-conditions-i.result) (places_from c.args.conditions.now (c.loop-i.i + 1)) (subst (ArePlaced c.args.text.now) (next_condition c.args.conditions.now c.loop-i.i c.index-conditions-i.result c.index-conditions-i.is c.loop-i-test.true) c.loop-i.invariant.placed)).1;
+  keeps = keeps_trans _ _ _ c.loop-i.invariant.keeps c.take_condition.ensures.keeps;
+}
+
+pub returns-clause-taking : goal.returns-clause-taking
+returns-clause-taking c = λ operations. all_taken c.args.text.now (knowing c.args.symbols.now c.args.variables.now operations) (knowing c.loop-i.symbols c.args.variables.now operations) (condition_places [] (map condition c.args.conditions.now)) (places_from c.args.conditions.now c.loop-i.i) (ap (λ xs. condition_places (qualified_names (take c.loop-i.i c.args.conditions.now)) (map condition xs)) (drop_all c.loop-i.i c.args.conditions.now c.loop-i-test.false)) (c.loop-i.invariant.under_way operations)

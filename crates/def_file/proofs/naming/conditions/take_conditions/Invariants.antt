@@ -1,0 +1,15 @@
+use Rattle.std.proofs.Common.{List, [], take, drop, map}
+use Rattle.eq_base.specs.declared.rules.Op.{Op}
+use Rattle.symbol_table.specs.Table.{Keeps}
+use Rattle.def_file.specs.Views.{condition}
+use Rattle.def_file.specs.Names.{condition_places}
+use Rattle.def_file.specs.Naming.{ArePlaced, knowing, qualified_names}
+use Rattle.def_file.proofs.Namings.{IsUnderWay}
+use Rattle.def_file.proofs.naming.conditions.take_conditions.Given as goal
+
+abbrev pub invariant-loop-i : goal.invariant-loop-i
+invariant-loop-i l = record {
+  under_way : (operations : List Op) → IsUnderWay l.text (knowing l.initial.symbols l.variables operations) (condition_places [] (map condition l.conditions)) (knowing l.symbols l.variables operations) (condition_places (qualified_names (take l.i l.conditions)) (map condition (drop l.i l.conditions)));
+  placed : ArePlaced l.text (condition_places (qualified_names (take l.i l.conditions)) (map condition (drop l.i l.conditions)));
+  keeps : Keeps l.initial.symbols l.symbols;
+}

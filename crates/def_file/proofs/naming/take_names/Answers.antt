@@ -1,0 +1,63 @@
+use Rattle.std.proofs.Common.{◌≡◌, Err, sym, subst, map, length, ap, arith, ◌≤◌}
+use Rattle.std.proofs.lemmas.List.{length-map}
+use Rattle.std.proofs.lemmas.Result.{err_from_is_err_and}
+use Rattle.std.specs.List.{flat_map}
+use Rattle.symbol_table.specs.Table.{Table}
+use Rattle.def_file.specs.Errors.{IfRefused}
+use Rattle.def_file.specs.Views.{symbol_item, equation_item, file}
+use Rattle.def_file.specs.Names.{Variable, nothing_known, symbol_places, item_places, TakesAll, RefusesFirst}
+use Rattle.def_file.specs.Naming.{ArePlaced, knowing, only_symbols, no_operations}
+use Rattle.def_file.proofs.Placed.{file_placed}
+use Rattle.def_file.proofs.Few.{file_few}
+use Rattle.def_file.proofs.FileNames.{naming_refused, symbols_refused, variables_refused, items_refused, all_named}
+use Rattle.def_file.proofs.naming.take_names.Goals as goal
+
+pub take_symbols-requires-clause-placed : goal.take_symbols-requires-clause-placed
+take_symbols-requires-clause-placed c = subst (λ xs. ArePlaced c.args.text.now (flat_map symbol_places (map symbol_item xs))) (sym c.deref.ensures.value) (file_placed c.args.text.now (file c.args.written.now) c.requires.reads.lexemes c.requires.reads.end c.requires.reads.scanned c.requires.reads.spelled).symbols
+
+pub take_symbols-requires-clause-room : goal.take_symbols-requires-clause-room
+take_symbols-requires-clause-room c =
+    let few : length c.args.written.now.symbols.items ≤ length c.args.text.now = simp length-map at (file_few c.args.text.now (file c.args.written.now) c.requires.reads.lexemes c.requires.reads.end c.requires.reads.scanned c.requires.reads.spelled).symbols in
+    let same = ap length c.deref.ensures.value in
+    let none = ap (λ (t : Table). length t.declared) c.new-symbols.ensures in
+    omega (arith, few, same, none, c.requires.short)
+
+pub returns-in_err-take_symbols : goal.returns-in_err-take_symbols
+returns-in_err-take_symbols c =
+    let p = err_from_is_err_and c.from_residual.result c.from_residual.ensures.1 in
+    let same : c.from_residual.result ≡ Err c.in_err-take_symbols.field-0.0 = cc (p.1, p.2) in
+    let refused = subst (λ xs. IfRefused (RefusesFirst c.args.text.now nothing_known (flat_map symbol_places (map symbol_item xs))) c.in_err-take_symbols.field-0.0) c.deref.ensures.value (subst (λ t. IfRefused (RefusesFirst c.args.text.now (only_symbols t) (flat_map symbol_places (map symbol_item c.deref.result.now))) c.in_err-take_symbols.field-0.0) c.new-symbols.ensures c.in_err-take_symbols.ensures) in
+    naming_refused c.args.text.now (file c.args.written.now) c.from_residual.result c.in_err-take_symbols.field-0.0 same (symbols_refused c.args.text.now (file c.args.written.now) c.in_err-take_symbols.field-0.0 refused)
+
+pub take_variables-requires-clause-placed : goal.take_variables-requires-clause-placed
+take_variables-requires-clause-placed c = subst (λ xs. ArePlaced c.args.text.now (map Variable xs)) (sym c.deref-2.ensures.value) (file_placed c.args.text.now (file c.args.written.now) c.requires.reads.lexemes c.requires.reads.end c.requires.reads.scanned c.requires.reads.spelled).variables
+
+pub take_variables-requires-clause-room : goal.take_variables-requires-clause-room
+take_variables-requires-clause-room c =
+    let few = (file_few c.args.text.now (file c.args.written.now) c.requires.reads.lexemes c.requires.reads.end c.requires.reads.scanned c.requires.reads.spelled).variables in
+    let same = ap length c.deref-2.ensures.value in
+    let none = ap length c.new-variables.ensures in
+    omega (arith, few, same, none, c.requires.short)
+
+pub returns-in_err-take_variables : goal.returns-in_err-take_variables
+returns-in_err-take_variables c =
+    let p = err_from_is_err_and c.from_residual-in_err-take_variables.result c.from_residual-in_err-take_variables.ensures.1 in
+    let same : c.from_residual-in_err-take_variables.result ≡ Err c.in_err-take_variables.field-0.0 = cc (p.1, p.2) in
+    let refused = subst (λ xs. IfRefused (RefusesFirst c.args.text.now (only_symbols c.take_symbols.new.symbols) (map Variable xs)) c.in_err-take_variables.field-0.0) c.deref-2.ensures.value (subst (λ vs. IfRefused (RefusesFirst c.args.text.now (no_operations c.take_symbols.new.symbols vs) (map Variable c.deref-2.result.now)) c.in_err-take_variables.field-0.0) c.new-variables.ensures c.in_err-take_variables.ensures) in
+    naming_refused c.args.text.now (file c.args.written.now) c.from_residual-in_err-take_variables.result c.in_err-take_variables.field-0.0 same (variables_refused c.args.text.now (file c.args.written.now) c.take_symbols.new.symbols (subst (λ xs. TakesAll c.args.text.now nothing_known (flat_map symbol_places (map symbol_item xs)) (only_symbols c.take_symbols.new.symbols)) c.deref.ensures.value (subst (λ t. TakesAll c.args.text.now (only_symbols t) (flat_map symbol_places (map symbol_item c.deref.result.now)) (only_symbols c.take_symbols.new.symbols)) c.new-symbols.ensures c.in_ok-take_symbols.ensures)) c.in_err-take_variables.field-0.0 refused)
+
+pub take_items-requires : goal.take_items-requires
+take_items-requires c = record { placed = subst (λ xs. ArePlaced c.args.text.now (flat_map item_places (map equation_item xs))) (sym c.deref-3.ensures.value) (file_placed c.args.text.now (file c.args.written.now) c.requires.reads.lexemes c.requires.reads.end c.requires.reads.scanned c.requires.reads.spelled).items }
+
+pub returns-in_err-items : goal.returns-in_err-items
+returns-in_err-items c =
+    let p = err_from_is_err_and c.from_residual-in_err-items.result c.from_residual-in_err-items.ensures.1 in
+    let same : c.from_residual-in_err-items.result ≡ Err c.in_err-items.field-0.0 = cc (p.1, p.2) in
+    let refused = subst (λ xs. IfRefused (RefusesFirst c.args.text.now (no_operations c.take_symbols.new.symbols c.take_variables.new.variables) (flat_map item_places (map equation_item xs))) c.in_err-items.field-0.0) c.deref-3.ensures.value (subst (λ ops. IfRefused (RefusesFirst c.args.text.now (knowing c.take_symbols.new.symbols c.take_variables.new.variables ops) (flat_map item_places (map equation_item c.deref-3.result.now))) c.in_err-items.field-0.0) c.new-operations.ensures.items c.in_err-items.ensures.taking) in
+    naming_refused c.args.text.now (file c.args.written.now) c.from_residual-in_err-items.result c.in_err-items.field-0.0 same (items_refused c.args.text.now (file c.args.written.now) c.take_symbols.new.symbols (subst (λ xs. TakesAll c.args.text.now nothing_known (flat_map symbol_places (map symbol_item xs)) (only_symbols c.take_symbols.new.symbols)) c.deref.ensures.value (subst (λ t. TakesAll c.args.text.now (only_symbols t) (flat_map symbol_places (map symbol_item c.deref.result.now)) (only_symbols c.take_symbols.new.symbols)) c.new-symbols.ensures c.in_ok-take_symbols.ensures)) c.take_variables.new.variables (subst (λ xs. TakesAll c.args.text.now (only_symbols c.take_symbols.new.symbols) (map Variable xs) (no_operations c.take_symbols.new.symbols c.take_variables.new.variables)) c.deref-2.ensures.value (subst (λ vs. TakesAll c.args.text.now (no_operations c.take_symbols.new.symbols vs) (map Variable c.deref-2.result.now) (no_operations c.take_symbols.new.symbols c.take_variables.new.variables)) c.new-variables.ensures c.in_ok-take_variables.ensures)) c.in_err-items.field-0.0 refused)
+
+pub returns : goal.returns
+returns c =
+    let known = knowing c.take_items.new.symbols c.take_variables.new.variables c.take_items.new.operations.items in
+    let items = subst (λ xs. TakesAll c.args.text.now (no_operations c.take_symbols.new.symbols c.take_variables.new.variables) (flat_map item_places (map equation_item xs)) known) c.deref-3.ensures.value (subst (λ ops. TakesAll c.args.text.now (knowing c.take_symbols.new.symbols c.take_variables.new.variables ops) (flat_map item_places (map equation_item c.deref-3.result.now)) known) c.new-operations.ensures.items c.in_ok-items.ensures.taking) in
+    all_named c.args.text.now (file c.args.written.now) c.take_symbols.new.symbols (subst (λ xs. TakesAll c.args.text.now nothing_known (flat_map symbol_places (map symbol_item xs)) (only_symbols c.take_symbols.new.symbols)) c.deref.ensures.value (subst (λ t. TakesAll c.args.text.now (only_symbols t) (flat_map symbol_places (map symbol_item c.deref.result.now)) (only_symbols c.take_symbols.new.symbols)) c.new-symbols.ensures c.in_ok-take_symbols.ensures)) c.take_variables.new.variables (subst (λ xs. TakesAll c.args.text.now (only_symbols c.take_symbols.new.symbols) (map Variable xs) (no_operations c.take_symbols.new.symbols c.take_variables.new.variables)) c.deref-2.ensures.value (subst (λ vs. TakesAll c.args.text.now (no_operations c.take_symbols.new.symbols vs) (map Variable c.deref-2.result.now) (no_operations c.take_symbols.new.symbols c.take_variables.new.variables)) c.new-variables.ensures c.in_ok-take_variables.ensures)) known items

@@ -1,0 +1,13 @@
+use Rattle.std.proofs.Common.{◌-◌, length, map}
+use Rattle.term_lex.specs.declared.token.TokenKind.TheVariants.{Comma}
+use Rattle.term_lex.specs.Parts.{IsKind}
+use Rattle.def_file.specs.Grammar.{IsCondition}
+use Rattle.def_file.specs.Views.{condition}
+use Rattle.def_file.proofs.Lists.{ListBegun}
+use Rattle.def_file.proofs.reading.conditions.read_conditions.Given as goal
+
+abbrev pub invariant-conditions : goal.invariant-conditions
+invariant-conditions l = ListBegun (IsKind Comma) IsCondition l.text l.at (map condition l.conditions.items) l.end
+
+abbrev pub decreases-conditions : goal.decreases-conditions
+decreases-conditions l = length l.text - l.end

@@ -1,0 +1,159 @@
+-- What a definitions file says, and what reading one answers.
+use Rattle.std.specs.Prelude.{◌≡◌, ℕ, ◌+◌, ◌≤◌, ◌<◌, ◌^◌, ◌⊎◌, ◌==◌, List, [], ◌∷◌, ◌++◌, length, Option, Some, None, Result, Ok, Err, slice_get, if◌then◌else◌}
+use Rattle.std.specs.List.{flat_map}
+use Rattle.eq_base.specs.Tree.{Tree, map_heads}
+use Rattle.eq_base.specs.Pattern.{PatternCell, variable, restricted}
+use Rattle.eq_base.specs.Meeting.{class_number}
+use Rattle.eq_base.specs.declared.head.Head.{Head}
+use Rattle.eq_base.specs.declared.meeting.SymbolClass.{SymbolClass}
+use Rattle.eq_base.specs.declared.rules.Op.{Op}
+use Rattle.term_lex.specs.declared.token.Token.{Token}
+use Rattle.term_lex.specs.declared.fault.Fault.{Fault}
+use Rattle.term_lex.specs.declared.fault.FaultKind.TheVariants.{FileLong}
+use Rattle.term_lex.specs.Lexemes.{IsFirstFault, Plainly}
+use Rattle.symbol_table.specs.Table.{class_name}
+use Rattle.def_file.specs.declared.definitions.Qualifier.{Qualifier}
+use Rattle.def_file.specs.declared.definitions.Written.{Written}
+use Rattle.def_file.specs.declared.definitions.Item.TheVariants as item
+use Rattle.def_file.specs.declared.definitions.Numbered.{Numbered}
+use Rattle.def_file.specs.declared.definitions.Definitions.{Definitions}
+use Rattle.def_file.specs.Trees.{Restriction, InClass, OneOf, Condition, Sides, EquationItem, Equates, IncludesOperations, File}
+use Rattle.def_file.specs.Grammar.{IsSomeFile, IsFileText}
+use Rattle.def_file.specs.Operations.{operation_name}
+use Rattle.def_file.specs.Names.{Known, nothing_known, places_of, bytes_of, TakesAll, RefusesFirst}
+use Rattle.def_file.specs.Sides.{equation_of, IsPattern, all_limits, KeepsAll, PassesFirst}
+
+-- ---- variables in classes
+
+-- the class of the variable, by the first pair that names it
+abbrev pub class_of : List (ℕ × ℕ) → ℕ → Option ℕ
+class_of [] x = None
+class_of (c ∷ cs) x = if c.0 == x then Some c.1 else class_of cs x
+
+-- a variable, restricted to its class if it has one
+abbrev pub restricted_to : ℕ → Option ℕ → PatternCell Head
+restricted_to x (Some class) = restricted x class
+restricted_to x None = variable x
+
+-- the cell with its variable in its class
+abbrev pub classed : List (ℕ × ℕ) → PatternCell Head → PatternCell Head
+classed classes (variable x) = restricted_to x (class_of classes x)
+classed classes c = c
+
+module _ (text : List ℕ) (known : Known) where
+  -- the token is the name of the variable with the number
+  abbrev pub NamesVariable : Token → ℕ → Type 0
+  NamesVariable name x = slice_get known.variables x ≡ Some (bytes_of text name)
+
+  -- the variable comes first where it is in a class, each with the number of the class; Rest says what comes then
+  abbrev pub IsFirstIn : Token → Restriction → (List (ℕ × ℕ) → Type 0) → List (ℕ × ℕ) → Type 0
+  IsFirstIn name (InClass class_token) Rest classes =
+      (x : ℕ) × (class : SymbolClass) × (rest : List (ℕ × ℕ)) × NamesVariable name x × (bytes_of text class_token ≡ class_name class)
+      × (classes ≡ (x, class_number class) ∷ rest) × Rest rest
+  IsFirstIn name (OneOf terms) Rest classes = Rest classes
+
+  -- the variables that are in a class, each with the number of its class
+  abbrev pub AreIn : List Condition → List (ℕ × ℕ) → Type 0
+  AreIn [] classes = classes ≡ []
+  AreIn (c ∷ cs) classes = IsFirstIn c.variable c.restriction (λ rest. AreIn cs rest) classes
+
+  module _ (classes : List (ℕ × ℕ)) where
+    -- the term from the byte on is this pattern, in which variables stand with their classes
+    abbrev pub MeansSide : ℕ → Tree (PatternCell Head) → Type 0
+    MeansSide byte pattern = (plain : Tree (PatternCell Head)) × IsPattern text known byte plain × (pattern ≡ map_heads (classed classes) plain)
+
+    -- the same of one term after another
+    abbrev pub MeanSides : List ℕ → List (Tree (PatternCell Head)) → Type 0
+    MeanSides [] patterns = patterns ≡ []
+    MeanSides (b ∷ bs) [] = ⊥
+    MeanSides (b ∷ bs) (p ∷ ps) = MeansSide b p × MeanSides bs ps
+
+    -- what a variable may stand for: the alternatives, of which a class has none
+    abbrev pub MeanChoices : Restriction → List (Tree (PatternCell Head)) → Type 0
+    MeanChoices (InClass name) patterns = patterns ≡ []
+    MeanChoices (OneOf terms) patterns = MeanSides terms patterns
+
+    -- a written qualifier means this one
+    pub record MeansQualifier (c : Condition) (qualifier : Qualifier) : Type 0 where
+      pub variable : NamesVariable c.variable qualifier.variable
+      pub choices : MeanChoices c.restriction qualifier.choices
+      pub place : qualifier.byte ≡ c.variable.from
+
+    -- the same of one qualifier after another
+    abbrev pub MeanQualifiers : List Condition → List Qualifier → Type 0
+    MeanQualifiers [] qualifiers = qualifiers ≡ []
+    MeanQualifiers (c ∷ cs) [] = ⊥
+    MeanQualifiers (c ∷ cs) (q ∷ qs) = MeansQualifier c q × MeanQualifiers cs qs
+
+  -- written sides mean this equation
+  pub record MeansEquation (sides : Sides) (equation : Written) : Type 0 where
+    pub classes : List (ℕ × ℕ)
+    pub are_in : AreIn sides.conditions classes
+    pub left : MeansSide classes sides.left equation.left
+    pub right : MeansSide classes sides.right equation.right
+    pub qualifiers : MeanQualifiers classes sides.conditions equation.qualifiers
+    pub place : equation.byte ≡ sides.left
+
+  -- the names mean these equation classes, which the item with the number includes
+  abbrev pub MeanOperations : ℕ → List Token → List Numbered → Type 0
+  MeanOperations number [] numbered = numbered ≡ []
+  MeanOperations number (t ∷ ts) [] = ⊥
+  MeanOperations number (t ∷ ts) (n ∷ ns) =
+      ((op : Op) × (bytes_of text t ≡ operation_name op) × (n ≡ record { item = item.Class op t.from; number = number })) × MeanOperations number ts ns
+
+  -- the written item with the number means these items
+  abbrev pub MeansItem : ℕ → EquationItem → List Numbered → Type 0
+  MeansItem number (Equates sides) numbered = (equation : Written) × MeansEquation sides equation × (numbered ≡ record { item = item.Equation equation; number = number } ∷ [])
+  MeansItem number (IncludesOperations names) numbered = MeanOperations number names numbered
+
+  -- the written items from the number on mean these items
+  abbrev pub MeanItems : ℕ → List EquationItem → List Numbered → Type 0
+  MeanItems number [] numbered = numbered ≡ []
+  MeanItems number (i ∷ is) numbered = (front : List Numbered) × (back : List Numbered) × (numbered ≡ front ++ back) × MeansItem number i front × MeanItems (number + 1) is back
+
+-- ---- the phases
+
+-- the most bytes of a file
+abbrev pub most_bytes : ℕ
+most_bytes = 2 ^ 24
+
+-- the equations of a file
+abbrev pub equations_of : File → List Sides
+equations_of file = flat_map equation_of file.items
+
+-- the file has no fault, and says these definitions
+pub record Says (text : List ℕ) (definitions : Definitions) : Type 0 where
+  pub short : length text ≤ most_bytes
+  pub file : File
+  pub reads : IsFileText text file
+  pub known : Known
+  pub names : TakesAll text nothing_known (places_of file) known
+  pub limits : KeepsAll text known (all_limits 0 (equations_of file))
+  pub symbols : definitions.symbols ≡ known.table
+  pub variables : definitions.variables ≡ known.variables
+  pub items : MeanItems text known 1 file.items definitions.items
+
+-- its names have a fault, and this is the first one
+pub record HasNameFault (text : List ℕ) (fault : Fault) : Type 0 where
+  pub file : File
+  pub reads : IsFileText text file
+  pub refused : RefusesFirst text nothing_known (places_of file) fault
+
+-- its names have no fault, but its sides have one, and this is the first one
+pub record HasSideFault (text : List ℕ) (fault : Fault) : Type 0 where
+  pub file : File
+  pub reads : IsFileText text file
+  pub known : Known
+  pub names : TakesAll text nothing_known (places_of file) known
+  pub passed : PassesFirst text known (all_limits 0 (equations_of file)) fault
+
+-- the first fault of the first phase that has one: the length, the reading, the names and the sides
+abbrev pub IsFileFault : List ℕ → Fault → Type 0
+IsFileFault text fault =
+    ((most_bytes < length text) × (fault ≡ record { kind = FileLong; byte = most_bytes }))
+    ⊎ ((length text ≤ most_bytes) × (IsFirstFault Plainly IsSomeFile text 0 fault ⊎ (HasNameFault text fault ⊎ HasSideFault text fault)))
+
+-- what reading a file answers
+abbrev pub IsDefinitions : List ℕ → Result Definitions Fault → Type 0
+IsDefinitions text (Ok definitions) = Says text definitions
+IsDefinitions text (Err fault) = IsFileFault text fault

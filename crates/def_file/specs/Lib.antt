@@ -1,0 +1,10 @@
+pub mod Errors
+pub mod Trees
+pub mod Views
+pub mod Reading
+pub mod Grammar
+pub mod Operations
+pub mod Names
+pub mod Naming
+pub mod Sides
+pub mod Definitions

@@ -1,0 +1,60 @@
+-- What the readers of names need, and what they answer.
+use Rattle.std.specs.Prelude.{ℕ, ◌^◌, ◌≤◌, List, [], length, map, Result, Ok, Err}
+use Rattle.std.specs.List.{AllByRecursion}
+use Rattle.eq_base.specs.declared.rules.Op.{Op}
+use Rattle.term_lex.specs.declared.token.Token.{Token}
+use Rattle.term_lex.specs.Values.{IsTokenOf, IsNumeralOf}
+use Rattle.symbol_table.specs.Table.{Table}
+use Rattle.def_file.specs.declared.error.FileError.{FileError}
+use Rattle.def_file.specs.declared.tree.Condition.{Condition}
+use Rattle.def_file.specs.declared.naming.Named.{Named}
+use Rattle.def_file.specs.Trees.{File}
+use Rattle.def_file.specs.Grammar.{IsFileText}
+use Rattle.def_file.specs.Errors.{IfRefused}
+use Rattle.def_file.specs.Names.{Place, Symbol, Class, Variable, Term, Qualified, ClassOf, Operation, Known, nothing_known, places_of, TakesAll, RefusesFirst}
+
+-- the tokens of the place stand in the text
+abbrev pub IsPlaced : List ℕ → Place → Type 0
+IsPlaced text (Symbol name arity) = IsTokenOf text name × IsNumeralOf text arity
+IsPlaced text (Class name) = IsTokenOf text name
+IsPlaced text (Variable name) = IsTokenOf text name
+IsPlaced text (Term byte) = byte ≤ length text
+IsPlaced text (Qualified before name) = AllByRecursion (IsTokenOf text) before × IsTokenOf text name
+IsPlaced text (ClassOf name) = IsTokenOf text name
+IsPlaced text (Operation name) = IsTokenOf text name
+
+-- the same of each place
+abbrev pub ArePlaced : List ℕ → List Place → Type 0
+ArePlaced text places = AllByRecursion (IsPlaced text) places
+
+-- the places were taken, which led from the old names to the new, or the first that has a fault was refused; memory may have run out
+abbrev pub IsTaking : {A : Type 0} → List ℕ → Known → List Place → Known → Result A FileError → Type 0
+IsTaking text old places new (Ok x) = TakesAll text old places new
+IsTaking text old places new (Err error) = IfRefused (RefusesFirst text old places) error
+
+-- the symbols, the variables and the equation classes that are known
+abbrev pub knowing : Table → List (List ℕ) → List Op → Known
+knowing table variables operations = record { table = table; variables = variables; operations = operations }
+
+-- the symbols are known, and nothing else
+abbrev pub only_symbols : Table → Known
+only_symbols table = knowing table [] []
+
+-- the symbols and the variables are known, and no equation classes
+abbrev pub no_operations : Table → List (List ℕ) → Known
+no_operations table variables = knowing table variables []
+
+-- the names before `is`
+abbrev pub qualified_names : List Condition → List Token
+qualified_names conditions = map (λ c. c.variable) conditions
+
+-- what the names of a file come to: all of them are taken, or the first that has a fault is refused; memory may have run out
+abbrev pub IsNaming : List ℕ → File → Result Named FileError → Type 0
+IsNaming text file (Ok named) = TakesAll text nothing_known (places_of file) (knowing named.symbols named.variables named.operations.items)
+IsNaming text file (Err error) = IfRefused (RefusesFirst text nothing_known (places_of file)) error
+
+-- the text is a file of few enough bytes, whose names have no fault and are these
+pub record IsNamed (text : List ℕ) (file : File) (named : Named) : Type 0 where
+  pub short : length text ≤ 2 ^ 24
+  pub reads : IsFileText text file
+  pub names : TakesAll text nothing_known (places_of file) (knowing named.symbols named.variables named.operations.items)

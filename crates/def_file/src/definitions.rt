@@ -1,0 +1,182 @@
+// What a definitions file says.
+ghost use Rattle.std.specs.Prelude.{◌≡◌, ◌≤◌, ◌<◌, ◌↔◌, length, slice_get, Some, IfSome, IsNone};
+ghost use Rattle.def_file.specs.declared.definitions.Numbered.{Numbered as NumberedItem};
+
+use eq_base::{Op, Pattern};
+use std::marker::Model;
+use symbol_table::{Symbols, Variables};
+
+/// The alternatives of a qualified variable. Contracts see the list of them.
+#[derive(Drop)]
+pub struct Choices {
+    alternatives: Vec<Pattern>,
+}
+
+impl Model for Choices {
+    ghost use Rattle.std.specs.Prelude.{List};
+    ghost use Rattle.std.specs.Coded.{coded_list};
+    ghost use Rattle.eq_base.specs.contracts.pattern.Pattern as pattern_type;
+    ghost use Rattle.eq_base.specs.Tree.{Tree};
+    ghost use Rattle.eq_base.specs.Pattern.{PatternCell};
+    ghost use Rattle.eq_base.specs.declared.head.Head.{Head};
+
+    ghost Value = { List (Tree (PatternCell Head)) };
+
+    ghost coded = { coded_list pattern_type.the_row.coded };
+
+    ghost view = { λ c. c.alternatives.items };
+}
+
+impl Choices {
+    /// How many alternatives there are.
+    pub fn len(&self) -> usize
+        ensures { result ≡ length self.now }
+    {
+        self.alternatives.len()
+    }
+
+    /// The alternative with that number.
+    pub fn get(&self, i: usize) -> &Pattern
+        requires { i < length self.now }
+        ensures { slice_get self.now i ≡ Some result.now }
+    {
+        &self.alternatives[i]
+    }
+}
+
+/// A qualified variable.
+#[derive(Drop)]
+pub struct Qualifier {
+    /// The number of the variable.
+    pub variable: u32,
+    /// What it may stand for; none where it is in a class, which its cells then name.
+    pub choices: Choices,
+    /// The first byte of its name before `is`.
+    pub byte: usize,
+}
+
+/// The qualifiers of an equation. Contracts see the list of them.
+#[derive(Drop)]
+pub struct Qualifiers {
+    list: Vec<Qualifier>,
+}
+
+impl Model for Qualifiers {
+    ghost use Rattle.std.specs.Prelude.{List};
+    ghost use Rattle.std.specs.Coded.{coded_list};
+    ghost use Rattle.def_file.specs.contracts.definitions.Qualifier as qualifier_type;
+    ghost use Rattle.def_file.specs.declared.definitions.Qualifier.{Qualifier};
+
+    ghost Value = { List Qualifier };
+
+    ghost coded = { coded_list qualifier_type.the_row.coded };
+
+    ghost view = { λ q. q.list.items };
+}
+
+impl Qualifiers {
+    /// How many qualifiers there are.
+    pub fn len(&self) -> usize
+        ensures { result ≡ length self.now }
+    {
+        self.list.len()
+    }
+
+    /// The qualifier with that number.
+    pub fn get(&self, i: usize) -> &Qualifier
+        requires { i < length self.now }
+        ensures { slice_get self.now i ≡ Some result.now }
+    {
+        &self.list[i]
+    }
+}
+
+/// A written equation.
+#[derive(Drop)]
+pub struct Written {
+    /// The left side.
+    pub left: Pattern,
+    /// The right side.
+    pub right: Pattern,
+    /// What its variables may stand for.
+    pub qualifiers: Qualifiers,
+    /// Its first byte.
+    pub byte: usize,
+}
+
+/// What an item of a file gives.
+#[derive(Drop)]
+pub enum Item {
+    /// An equation.
+    Equation(Written),
+    /// The equations of an operation, whose class is named at the byte.
+    Class(Op, usize),
+}
+
+/// An item, and the number of the written item that gives it, counted from 1.
+#[derive(Drop)]
+pub struct Numbered {
+    /// The item.
+    pub item: Item,
+    /// The number.
+    pub number: u32,
+}
+
+/// The items of a file, an include giving one for each of its names. Contracts see the list of them.
+#[derive(Drop)]
+pub struct Items {
+    list: Vec<Numbered>,
+}
+
+impl Model for Items {
+    ghost use Rattle.std.specs.Prelude.{List};
+    ghost use Rattle.std.specs.Coded.{coded_list};
+    ghost use Rattle.def_file.specs.contracts.definitions.Numbered as numbered_type;
+    ghost use Rattle.def_file.specs.declared.definitions.Numbered.{Numbered};
+
+    ghost Value = { List Numbered };
+
+    ghost coded = { coded_list numbered_type.the_row.coded };
+
+    ghost view = { λ i. i.list.items };
+}
+
+/// The symbols, the variables and the items of a file.
+#[derive(Drop)]
+pub struct Definitions {
+    /// The symbols.
+    pub symbols: Symbols,
+    /// The variables, by their numbers.
+    pub variables: Variables,
+    /// The items in their order.
+    pub items: Items,
+}
+
+impl Items {
+    /// The item with that place in the list.
+    fn get(&self, place: usize) -> Option<&Numbered>
+        ensures some { IfSome result (λ numbered. slice_get self.now place ≡ Some numbered.now) }
+        ensures none { IsNone result ↔ (length self.now ≤ place) }
+    {
+        self.list.get(place)
+    }
+}
+
+impl Definitions {
+    /// The item with that place in the list.
+    pub fn item(&self, number: usize) -> Option<&Item>
+        ensures some { IfSome result (λ item. (n : NumberedItem) × (slice_get self.now.items number ≡ Some n) × (n.item ≡ item.now)) }
+        ensures none { IsNone result ↔ (length self.now.items ≤ number) }
+    {
+        let numbered = self.items.get(number)?;
+        Some(&numbered.item)
+    }
+
+    /// The number of the written item that gives the item with that place, counted from 1.
+    pub fn item_number(&self, number: usize) -> u32
+        requires { number < length self.now.items }
+        ensures { (n : NumberedItem) × (slice_get self.now.items number ≡ Some n) × (result ≡ n.number) }
+    {
+        self.items.list[number].number
+    }
+}

@@ -1,0 +1,17 @@
+//! Definitions files: the symbols, the variables and the equations that a text gives, or its first fault.
+#![tactic(auto)]
+
+mod definitions;
+mod error;
+mod naming;
+mod phases;
+mod reading;
+mod tree;
+
+pub use definitions::{
+    Choices, Definitions, Item, Items, Numbered, Qualifier, Qualifiers, Written,
+};
+pub use error::FileError;
+
+#[cfg(test)]
+mod tests;

@@ -1,0 +1,161 @@
+// What the variables of an equation may stand for.
+ghost use Rattle.std.specs.Prelude.{◌≡◌, ◌≤◌, ◌↔◌, ℕ, List, ◌∷◌, ◌++◌, [], length, map, IsTrue, IfOk, Contains, Some, slice_get};
+ghost use Rattle.std.specs.List.{AllByRecursion};
+ghost use Rattle.eq_base.specs.declared.rules.Op.{Op as Operator};
+ghost use Rattle.eq_base.specs.declared.meeting.SymbolClass.{SymbolClass as Class};
+ghost use Rattle.symbol_table.specs.Table.{Table, Keeps, class_name};
+ghost use Rattle.term_lex.specs.Values.{IsTokenOf};
+ghost use Rattle.def_file.specs.Views.{condition, restriction};
+ghost use Rattle.def_file.specs.Names.{Qualified, ClassOf, bytes_of, restriction_places, condition_places};
+ghost use Rattle.def_file.specs.Naming.{ArePlaced, IsPlaced, IsTaking, knowing, qualified_names};
+
+use super::faults::{bytes_of, refused};
+use super::operations::includes;
+use super::terms::take_terms;
+use crate::error::FileError;
+use crate::tree::{Condition, Restriction};
+use eq_base::{Pattern, SymbolClass};
+use std::alloc::Global;
+use symbol_table::{Symbols, Variables, class_named};
+use term_lex::{FaultKind, Token};
+
+/// What a qualified variable may stand for.
+#[derive(Drop)]
+pub enum Choice {
+    /// The constants of a class.
+    InClass(SymbolClass),
+    /// The instances of patterns.
+    OneOf(Vec<Pattern>),
+}
+
+/// A qualified variable.
+#[derive(Drop)]
+pub struct TakenCondition {
+    /// The number of the variable.
+    pub variable: u32,
+    /// What it may stand for.
+    pub choice: Choice,
+    /// The first byte of its name before `is`.
+    pub byte: usize,
+}
+
+fn is_same(word: &[u8], other: &[u8]) -> bool
+    ensures { IsTrue result ↔ (word.now ≡ other.now) }
+{
+    word == other
+}
+
+/// Whether the name stands before `is` in one of the conditions.
+fn is_qualified(text: &[u8], conditions: &[Condition], name: Token) -> bool
+    requires placed { AllByRecursion (IsTokenOf text.now) (qualified_names conditions.now) }
+    requires name { IsTokenOf text.now name }
+    ensures { IsTrue result ↔ Contains (map (bytes_of text.now) (qualified_names conditions.now)) (bytes_of text.now name) }
+{
+    for condition in conditions {
+        if is_same(bytes_of(text, condition.variable), bytes_of(text, name)) {
+            return true;
+        }
+    }
+    false
+}
+
+/// The number of the variable before `is`, behind those conditions of the equation.
+fn take_qualified(
+    text: &[u8],
+    before: &[Condition],
+    name: Token,
+    variables: &Variables,
+) -> Result<u32, FileError>
+    requires placed { IsPlaced text.now (Qualified (qualified_names before.now) name) }
+    ensures taking { (table : Table) (operations : List Operator) → IsTaking text.now (knowing table variables.now operations) (Qualified (qualified_names before.now) name ∷ []) (knowing table variables.now operations) result }
+    ensures variable { IfOk result (λ x. slice_get variables.now x ≡ Some (bytes_of text.now name)) }
+{
+    let Some(variable) = variables.find(bytes_of(text, name)) else {
+        return Err(refused(FaultKind::QualifiedUnknown, name));
+    };
+    if is_qualified(text, before, name) {
+        return Err(refused(FaultKind::QualifiedTwice, name));
+    }
+    Ok(variable)
+}
+
+/// The included class behind `is in`.
+fn take_class_of(text: &[u8], name: Token, symbols: &Symbols) -> Result<SymbolClass, FileError>
+    requires placed { IsPlaced text.now (ClassOf name) }
+    ensures taking { (variables : List (List ℕ)) (operations : List Operator) → IsTaking text.now (knowing symbols.now variables operations) (ClassOf name ∷ []) (knowing symbols.now variables operations) result }
+    ensures class { IfOk result (λ class. bytes_of text.now name ≡ class_name class) }
+{
+    let Some(class) = class_named(bytes_of(text, name)) else {
+        return Err(refused(FaultKind::UnknownClass, name));
+    };
+    if !includes(symbols, class) {
+        return Err(refused(FaultKind::NotIncluded, name));
+    }
+    Ok(class)
+}
+
+/// What stands behind `is`.
+fn take_restriction(
+    alloc: Global,
+    text: &[u8],
+    written: &Restriction,
+    symbols: &mut Symbols,
+    variables: &Variables,
+) -> Result<Choice, FileError>
+    requires placed { ArePlaced text.now (restriction_places (restriction written.now)) }
+    ensures taking { (operations : List Operator) → IsTaking text.now (knowing symbols.old variables.now operations) (restriction_places (restriction written.now)) (knowing symbols.new variables.now operations) result }
+    ensures keeps { Keeps symbols.old symbols.new }
+{
+    match written {
+        Restriction::InClass(name) => {
+            let class = take_class_of(text, *name, symbols)?;
+            Ok(Choice::InClass(class))
+        }
+        Restriction::OneOf(terms) => {
+            let patterns = take_terms(alloc, text, terms, symbols, variables)?;
+            Ok(Choice::OneOf(patterns))
+        }
+    }
+}
+
+/// A condition, behind those conditions of the equation.
+fn take_condition(
+    alloc: Global,
+    text: &[u8],
+    before: &[Condition],
+    condition: &Condition,
+    symbols: &mut Symbols,
+    variables: &Variables,
+) -> Result<TakenCondition, FileError>
+    requires placed { ArePlaced text.now (Qualified (qualified_names before.now) condition.now.variable ∷ restriction_places (restriction condition.now.restriction)) }
+    ensures taking { (operations : List Operator) → IsTaking text.now (knowing symbols.old variables.now operations) (Qualified (qualified_names before.now) condition.now.variable ∷ restriction_places (restriction condition.now.restriction)) (knowing symbols.new variables.now operations) result }
+    ensures keeps { Keeps symbols.old symbols.new }
+{
+    let variable = take_qualified(text, before, condition.variable, variables)?;
+    let choice = take_restriction(alloc, text, &condition.restriction, symbols, variables)?;
+    Ok(TakenCondition {
+        variable,
+        choice,
+        byte: condition.variable.from,
+    })
+}
+
+/// The conditions of an equation.
+pub fn take_conditions(
+    alloc: Global,
+    text: &[u8],
+    conditions: &[Condition],
+    symbols: &mut Symbols,
+    variables: &Variables,
+) -> Result<Vec<TakenCondition>, FileError>
+    requires placed { ArePlaced text.now (condition_places [] (map condition conditions.now)) }
+    ensures taking { (operations : List Operator) → IsTaking text.now (knowing symbols.old variables.now operations) (condition_places [] (map condition conditions.now)) (knowing symbols.new variables.now operations) result }
+    ensures keeps { Keeps symbols.old symbols.new }
+{
+    let mut taken = Vec::new(alloc);
+    for (i, next) in conditions.iter().enumerate() {
+        let condition = take_condition(alloc, text, &conditions[..i], next, symbols, variables)?;
+        taken.push(condition)?;
+    }
+    Ok(taken)
+}

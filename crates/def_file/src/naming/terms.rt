@@ -1,0 +1,50 @@
+// The terms of equations.
+ghost use Rattle.std.specs.Prelude.{◌≡◌, ◌≤◌, ℕ, List, ◌∷◌, [], length, map, IfOk};
+ghost use Rattle.eq_base.specs.declared.rules.Op.{Op as Operator};
+ghost use Rattle.symbol_table.specs.Table.{Keeps};
+ghost use Rattle.def_file.specs.Names.{Term};
+ghost use Rattle.def_file.specs.Sides.{IsPattern};
+ghost use Rattle.def_file.specs.Naming.{ArePlaced, IsTaking, knowing};
+
+use crate::error::FileError;
+use eq_base::Pattern;
+use standmath::read_pattern;
+use std::alloc::Global;
+use symbol_table::{Symbols, Variables};
+
+/// The pattern of the term that begins at the byte.
+pub fn take_term(
+    alloc: Global,
+    text: &[u8],
+    byte: usize,
+    symbols: &mut Symbols,
+    variables: &Variables,
+) -> Result<Pattern, FileError>
+    requires placed { byte ≤ length text.now }
+    ensures taking { (operations : List Operator) → IsTaking text.now (knowing symbols.old variables.now operations) (Term byte ∷ []) (knowing symbols.new variables.now operations) result }
+    ensures pattern { (operations : List Operator) → IfOk result (IsPattern text.now (knowing symbols.new variables.now operations) byte) }
+    ensures keeps { Keeps symbols.old symbols.new }
+{
+    let (pattern, _) = read_pattern(alloc, symbols, variables, text, byte)?;
+    Ok(pattern)
+}
+
+/// The patterns of terms.
+pub fn take_terms(
+    alloc: Global,
+    text: &[u8],
+    terms: &[usize],
+    symbols: &mut Symbols,
+    variables: &Variables,
+) -> Result<Vec<Pattern>, FileError>
+    requires placed { ArePlaced text.now (map Term terms.now) }
+    ensures taking { (operations : List Operator) → IsTaking text.now (knowing symbols.old variables.now operations) (map Term terms.now) (knowing symbols.new variables.now operations) result }
+    ensures keeps { Keeps symbols.old symbols.new }
+{
+    let mut patterns = Vec::new(alloc);
+    for byte in terms {
+        let pattern = take_term(alloc, text, *byte, symbols, variables)?;
+        patterns.push(pattern)?;
+    }
+    Ok(patterns)
+}

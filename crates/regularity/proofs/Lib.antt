@@ -1,0 +1,12 @@
+pub mod Faces
+pub mod Scan
+pub mod Facings
+pub mod Clashes
+pub mod Order
+pub mod Listed
+mod Merging
+mod Finding
+mod Readings
+mod Filled
+mod Singles
+mod Twos

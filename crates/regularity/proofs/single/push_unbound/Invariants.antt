@@ -1,0 +1,6 @@
+use Rattle.regularity.specs.Violations.{IsOfOne}
+use Rattle.regularity.specs.Listing.{ListsBefore}
+use Rattle.regularity.proofs.single.push_unbound.Given as goal
+
+abbrev pub invariant-loop-place : goal.invariant-loop-place
+invariant-loop-place l = ListsBefore (IsOfOne l.rules) 2 l.first l.place l.first l.found

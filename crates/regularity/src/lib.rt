@@ -1,0 +1,15 @@
+//! The restrictions on equations one by one and two by two: RE1 to RE4.
+#![tactic(auto)]
+
+pub mod breaks;
+pub mod common;
+pub mod facing;
+mod merge;
+pub mod pairs;
+pub mod single;
+
+pub use breaks::{Break, Breaks};
+pub use common::has_common;
+pub use facing::{Facing, facing_of};
+pub use pairs::{is_tested, overlaps};
+pub use single::{check_single, tell_singles};
