@@ -15,11 +15,11 @@ ghost use Rattle.standmath.specs.Cells.{MeanCells};
 use crate::cells::{cell_of, head_of};
 use crate::error::ReadError;
 use crate::mentions::Mention;
-use crate::scan::{misplaced, scan_term};
+use crate::scan::scan_term;
 use eq_base::{Flat, FlatMaker, Pattern, PatternMaker};
 use std::alloc::Global;
 use symbol_table::{Symbols, Variables};
-use term_lex::{Fault, TokenKind, next_token};
+use term_lex::{Fault, TokenKind, misplaced, next_token};
 
 /// The place after the dot that stands next.
 fn skip_dot(text: &[u8], at: usize) -> Result<usize, Fault>

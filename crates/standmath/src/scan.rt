@@ -1,6 +1,6 @@
 ghost use Rattle.std.specs.Prelude.{◌≡◌, ◌≤◌, ℕ, Result, length, ◌&&◌, IfOk, IfErr};
 ghost use Rattle.term_lex.specs.declared.fault.Fault.{Fault};
-ghost use Rattle.term_lex.specs.Lexemes.{IsAnswer, IsFirstFault, Plainly, misplaced};
+ghost use Rattle.term_lex.specs.Lexemes.{IsAnswer, IsFirstFault, Plainly};
 ghost use Rattle.standmath.specs.Terms.{IsSomeTerm};
 ghost use Rattle.standmath.specs.Steps.{ends_term};
 ghost use Rattle.standmath.specs.Answering.{IfRefused, AnswersRight, AnswersAs};
@@ -10,21 +10,7 @@ use crate::error::ReadError;
 use crate::mentions::{Mention, Mentions};
 use crate::place::Place;
 use std::alloc::Global;
-use term_lex::{Fault, FaultKind, Token, TokenKind, next_token};
-
-/// The fault of a token that cannot stand in its place.
-pub fn misplaced(token: Token) -> Fault
-    ensures { result ≡ misplaced token }
-{
-    let kind = match token.kind {
-        TokenKind::End => FaultKind::Unended,
-        found => FaultKind::Expected { found },
-    };
-    Fault {
-        kind,
-        byte: token.from,
-    }
-}
+use term_lex::{Fault, misplaced, next_token};
 
 /// Whether the tokens so far are a whole term.
 fn is_whole(met: &Mentions, place: Place) -> bool

@@ -1,7 +1,8 @@
 ghost use Rattle.std.specs.Prelude.{◌≡◌};
 ghost use Rattle.term_lex.specs.Faults.{fault_number, fault_word};
+ghost use Rattle.term_lex.specs.Lexemes.{misplaced};
 
-use crate::token::TokenKind;
+use crate::token::{Token, TokenKind};
 
 /// What is wrong with a text.
 #[derive(Clone, Copy, Debug, PartialEq, Eq)]
@@ -141,4 +142,18 @@ pub struct Fault {
     pub kind: FaultKind,
     /// Where, in bytes counted from 0.
     pub byte: usize,
+}
+
+/// The fault of a token that cannot stand in its place.
+pub fn misplaced(token: Token) -> Fault
+    ensures { result ≡ misplaced token }
+{
+    let kind = match token.kind {
+        TokenKind::End => FaultKind::Unended,
+        found => FaultKind::Expected { found },
+    };
+    Fault {
+        kind,
+        byte: token.from,
+    }
 }

@@ -8,9 +8,9 @@ mod string;
 mod syntax;
 mod token;
 
-pub use fault::{Fault, FaultKind};
+pub use fault::{Fault, FaultKind, misplaced};
 pub use numeral::numeral_value;
-pub use scan::next_token;
+pub use scan::{gap_len, next_token};
 pub use string::string_value;
 pub use syntax::Syntax;
 pub use token::{Token, TokenKind};

@@ -1,26 +1,12 @@
 // The single tokens of a file.
 ghost use Rattle.std.specs.Prelude.{◌≡◌, ◌≤◌, length, true, false};
-ghost use Rattle.term_lex.specs.Lexemes.{lexeme, misplaced};
+ghost use Rattle.term_lex.specs.Lexemes.{lexeme};
 ghost use Rattle.term_lex.specs.Parts.{IsKind, IsWord, One, NextIs};
 ghost use Rattle.def_file.specs.Grammar.{IsToken};
 ghost use Rattle.def_file.specs.Reading.{IsSkip, IsRead};
 
 use crate::error::FileError;
-use term_lex::{Fault, FaultKind, Token, TokenKind, next_token};
-
-/// The fault of a token that cannot stand in its place.
-fn misplaced(token: Token) -> Fault
-    ensures { result ≡ misplaced token }
-{
-    let kind = match token.kind {
-        TokenKind::End => FaultKind::Unended,
-        found => FaultKind::Expected { found },
-    };
-    Fault {
-        kind,
-        byte: token.from,
-    }
-}
+use term_lex::{Token, TokenKind, misplaced, next_token};
 
 /// Whether the token is of the kind.
 fn is_kind(token: Token, kind: TokenKind) -> bool
