@@ -25,7 +25,7 @@ unfolding some_of_kind
 no_include (n, b) = cc
 
 include_can : (x : Lexeme) → IsInclude x → IsViable (Some IsIncludeOf) (x ∷ [])
-include_can x i = let v : IsViable (Then (One IsInclude) (Some IsNames)) (x ∷ []) = then_can Rules.names_part.some Rules.names_part.some_is x i in (v.0, Rules.include_to _ v.1)
+include_can x i = let v : IsViable (Then (One IsInclude) (Some IsNames)) (x ∷ []) = then_can Rules.names_part.some Rules.names_part.some_is x i in (v.0, Rules.include_of _ v.1)
 
 abbrev some_declared : List Lexeme
 some_declared = some_name ∷ some_of_kind Colon ∷ some_of_kind Numeral ∷ []
@@ -58,15 +58,15 @@ is_equation = Rules.equation_to some_equation (
 module _ (text : List ℕ) (at : ℕ) where
   -- a symbol item: an include, or a declaration
   module _ (next : NextIs IsInclude text at) where
-    pub symbol_item_include : (ns : List Token) (end : ℕ) → IsReadAs (Some IsIncludeOf) (IsIncludeOf ns) text at end → IsReadAs (Some IsSymbolItem) (IsSymbolItem (IncludesClasses ns)) text at end
-    symbol_item_include ns end r = first_read IsInclude (Some IsIncludeOf) (Some IsDeclared) Rules.include_begun Rules.symbol_item_to Rules.symbol_item_from text at include_can next (λ xs s. s) r
+    pub symbol_item_include : (include : Token × List Token) (end : ℕ) → IsReadAs (Some IsIncludeOf) (IsIncludeOf include) text at end → IsReadAs (Some IsSymbolItem) (IsSymbolItem (IncludesClasses include.0 include.1)) text at end
+    symbol_item_include include end r = first_read IsInclude (Some IsIncludeOf) (Some IsDeclared) Rules.include_begun Rules.symbol_item_to Rules.symbol_item_from text at include_can next (λ xs s. s) r
 
     pub symbol_item_include_refused : (error : FileError) → IsRefused (Some IsIncludeOf) text at error → IsRefused (Some IsSymbolItem) text at error
     symbol_item_include_refused error r = first_choice_refused IsInclude (Some IsIncludeOf) (Some IsDeclared) Rules.include_begun Rules.symbol_item_to Rules.symbol_item_from text at include_can next error r
 
     -- an item: an include, or an equation
-    pub item_include : (ns : List Token) (end : ℕ) → IsReadAs (Some IsIncludeOf) (IsIncludeOf ns) text at end → IsReadAs (Some IsItem) (IsItem (IncludesOperations ns)) text at end
-    item_include ns end r = first_read IsInclude (Some IsIncludeOf) (Some IsEquation) Rules.include_begun Rules.item_to Rules.item_from text at include_can next (λ xs s. s) r
+    pub item_include : (include : Token × List Token) (end : ℕ) → IsReadAs (Some IsIncludeOf) (IsIncludeOf include) text at end → IsReadAs (Some IsItem) (IsItem (IncludesOperations include.0 include.1)) text at end
+    item_include include end r = first_read IsInclude (Some IsIncludeOf) (Some IsEquation) Rules.include_begun Rules.item_to Rules.item_from text at include_can next (λ xs s. s) r
 
     pub item_include_refused : (error : FileError) → IsRefused (Some IsIncludeOf) text at error → IsRefused (Some IsItem) text at error
     item_include_refused error r = first_choice_refused IsInclude (Some IsIncludeOf) (Some IsEquation) Rules.include_begun Rules.item_to Rules.item_from text at include_can next error r

@@ -9,8 +9,8 @@ use Rattle.term_lex.proofs.Parts.{IsPart}
 use Rattle.term_lex.proofs.Tokens.{token_within}
 use Rattle.term_lex.proofs.Readings.{scans_within}
 use Rattle.def_file.specs.Trees.{File}
-use Rattle.def_file.specs.Grammar.{IsToken, IsSymbolItem, IsVariables, IsFile}
-use Rattle.def_file.proofs.Rules.{token_part, symbol_item_part}
+use Rattle.def_file.specs.Grammar.{IsToken, IsSymbolItem, IsItem, IsVariables, IsFile}
+use Rattle.def_file.proofs.Rules.{token_part, symbol_item_part, item_part}
 
 module _ (text : List ℕ) where
   -- lexemes one after another are scanned in two parts
@@ -71,10 +71,11 @@ module _ (text : List ℕ) where
         let empty : length vs ≡ 0 = ap length none in
         omega (arith, far, last.0, empty)
 
-  -- a file has no more symbol items and no more variables than bytes
+  -- a file has no more symbol items, variables and items than bytes
   pub record IsFew (file : File) : Type 0 where
     pub symbols : length file.symbols ≤ length text
     pub variables : length file.variables ≤ length text
+    pub items : length file.items ≤ length text
 
   variables_few : (vs : List Token) (xs : List Lexeme) (at end : ℕ) → at ≤ length text → Scans text at xs end → IsVariables vs xs → length vs ≤ end
   variables_few [] xs at end le s v = omega arith
@@ -86,7 +87,7 @@ module _ (text : List ℕ) where
       omega (arith, few, last.0)
 
   pub file_few : (file : File) (xs : List Lexeme) (end : ℕ) → Scans text 0 xs end → IsFile file xs → IsFew file
-  file_few file xs end s (f1, b1, e1, w1, (f2, b2, e2, ss, (f3, b3, e3, w3, (f4, b4, e4, w4, (f5, b5, e5, vs, r))))) =
+  file_few file xs end s (f1, b1, e1, w1, (f2, b2, e2, ss, (f3, b3, e3, w3, (f4, b4, e4, w4, (f5, b5, e5, vs, (f6, b6, e6, is, r)))))) =
       let c1 = scans_split f1 b1 0 end (subst (λ ys. Scans text 0 ys end) e1 s) in
       let i1 = scans_within text 0 f1 c1.mid (omega arith) c1.first in
       let c2 = scans_split f2 b2 c1.mid end (subst (λ ys. Scans text c1.mid ys end) e2 c1.second) in
@@ -97,6 +98,9 @@ module _ (text : List ℕ) where
       let i4 = scans_within text c3.mid f4 c4.mid i3.1 c4.first in
       let c5 = scans_split f5 b5 c4.mid end (subst (λ ys. Scans text c4.mid ys end) e5 c4.second) in
       let i5 = scans_within text c4.mid f5 c5.mid i4.1 c5.first in
+      let c6 = scans_split f6 b6 c5.mid end (subst (λ ys. Scans text c5.mid ys end) e6 c5.second) in
+      let i6 = scans_within text c5.mid f6 c6.mid i5.1 c6.first in
+      let items = closed_few IsItem item_part refl (IsKind Semicolon) (IsKind Dot) file.items f6 c5.mid c6.mid i5.1 c6.first is in
       let symbols = closed_few IsSymbolItem symbol_item_part refl (IsKind Semicolon) (IsKind Dot) file.symbols f2 c1.mid c2.mid i1.1 c2.first ss in
       let variables = variables_few file.variables f5 c4.mid c5.mid i4.1 c5.first vs in
-      record { symbols = omega (arith, symbols, i2.1); variables = omega (arith, variables, i5.1) }
+      record { symbols = omega (arith, symbols, i2.1); variables = omega (arith, variables, i5.1); items = omega (arith, items, i6.1) }

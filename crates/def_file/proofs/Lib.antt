@@ -8,3 +8,14 @@ pub mod NameFaults
 pub mod Placed
 pub mod Few
 pub mod FileNames
+pub mod Pairs
+pub mod Lasting
+pub mod Limits
+pub mod Classes
+pub mod Meant
+pub mod Alike
+pub mod OneFile
+pub mod OneNaming
+pub mod OneFault
+pub mod OneAnswer
+pub mod FirstBytes

@@ -67,8 +67,8 @@ module _ (text : List ℕ) where
   names_placed : (names : List Token) (xs : List Lexeme) → Held xs → IsNames names xs → AllByRecursion (IsTokenOf text) names
   names_placed names xs h n = separated_placed (IsToken Name) (IsTokenOf text) (λ t ys k i. (token_placed Name t ys k i).0) (IsKind Comma) names xs h n
 
-  include_placed : (names : List Token) (xs : List Lexeme) → Held xs → IsIncludeOf names xs → AllByRecursion (IsTokenOf text) names
-  include_placed names xs h (front, back, e, i, n) = names_placed names back (held_second xs front back e h) n
+  include_placed : (include : Token) (names : List Token) (xs : List Lexeme) → Held xs → IsIncludeOf (include, names) xs → AllByRecursion (IsTokenOf text) names
+  include_placed include names xs h (front, back, e, i, n) = names_placed names back (held_second xs front back e h) n
 
   classes_placed : (names : List Token) → AllByRecursion (IsTokenOf text) names → ArePlaced text (map Class names)
   classes_placed [] a = tt
@@ -91,7 +91,7 @@ module _ (text : List ℕ) where
       let behind = held_second xs f b e h in
       let numeral = token_placed Numeral arity c (held_second b g c e' behind) a in
       (((token_placed Name name f (held_first xs f b e h) n).0, numeral), tt)
-  symbol_item_placed (IncludesClasses names) xs h i = classes_placed names (include_placed names xs h i)
+  symbol_item_placed (IncludesClasses include names) xs h i = classes_placed names (include_placed include names xs h i)
 
   restriction_placed : (r : Restriction) (xs : List Lexeme) → Held xs → IsRestriction r xs → ArePlaced text (restriction_places r)
   restriction_placed (InClass name) xs h (f, b, e, w, t) = ((token_placed Name name b (held_second xs f b e h) t).0, tt)
@@ -123,7 +123,7 @@ module _ (text : List ℕ) where
 
   item_placed : (i : EquationItem) (xs : List Lexeme) → Held xs → IsItem i xs → ArePlaced text (item_places i)
   item_placed (Equates s) xs h (other, q) = equation_placed s xs h q
-  item_placed (IncludesOperations names) xs h i = operations_placed names (include_placed names xs h i)
+  item_placed (IncludesOperations include names) xs h i = operations_placed names (include_placed include names xs h i)
 
   list_placed : (vs : List Token) (xs : List Lexeme) → Held xs → IsVariables vs xs → ArePlaced text (map Variable vs)
   list_placed [] xs h v = tt

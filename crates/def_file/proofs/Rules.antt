@@ -1,5 +1,5 @@
 -- The rules of the grammar without their trees, and what begins each and goes on behind it.
-use Rattle.std.proofs.Common.{◌≡◌, true, false, List, [], ◌∷◌, inl, inr, refl, subst}
+use Rattle.std.proofs.Common.{◌≡◌, ℕ, true, false, List, [], ◌∷◌, inl, inr, refl, subst}
 use Rattle.std.specs.Prelude.{codes}
 use Rattle.term_lex.specs.declared.token.TokenKind.{TokenKind}
 use Rattle.term_lex.specs.declared.token.TokenKind.TheVariants.{Name, Numeral, Comma, Semicolon, Colon, Dot, Equals, OpenRound, End}
@@ -12,7 +12,7 @@ use Rattle.term_lex.proofs.ListAnswers.{same_part, separated_part, list_part}
 use Rattle.standmath.specs.Terms.{IsSomeTerm}
 use Rattle.standmath.proofs.Terms.{term_marks, term_part}
 use Rattle.def_file.specs.Trees.{Declares, IncludesClasses, InClass, OneOf, Equates, IncludesOperations}
-use Rattle.def_file.specs.Grammar.{IsToken, IsTermFrom, IsInclude, IsNames, IsIncludeOf, IsDeclared, IsSymbolItem, IsNamed, IsVariables, IsTerms, IsInClass, IsOneOf, IsRestriction, IsCondition, IsConditions, IsWhere, IsEquation, IsItem, IsFile}
+use Rattle.def_file.specs.Grammar.{IsToken, IsWordAs, IsTermFrom, IsInclude, IsNames, IsIncludeOf, IsDeclared, IsSymbolItem, IsNamed, IsVariables, IsTerms, IsInClass, IsOneOf, IsRestriction, IsCondition, IsConditions, IsWhere, IsEquation, IsItem, IsFile}
 
 -- a token of a kind
 pub token_to : {k : TokenKind} (xs : List Lexeme) → One (IsKind k) xs → Some (IsToken k) xs
@@ -23,6 +23,16 @@ token_from xs (token, (x, e, t)) = (x, e, t.0)
 
 pub token_part : (k : TokenKind) → IsPart (Some (IsToken k)) false (Kind k ∷ []) []
 token_part k = same_part token_to token_from (kind_part k)
+
+-- a token that is a word
+pub word_to : (w : List ℕ) (xs : List Lexeme) → One (IsWord w) xs → Some (IsWordAs w) xs
+word_to w xs (x, e, t) = (x.token, (x, e, (t, refl)))
+
+pub word_from : (w : List ℕ) (xs : List Lexeme) → Some (IsWordAs w) xs → One (IsWord w) xs
+word_from w xs (token, (x, e, t)) = (x, e, t.0)
+
+pub word_as_part : (w : List ℕ) → IsPart (Some (IsWordAs w)) false (Word w ∷ []) []
+word_as_part w = same_part (word_to w) (word_from w) (word_part w)
 
 -- a term with its first byte
 no_term : IsSomeTerm [] → ⊥
@@ -43,17 +53,26 @@ pub names_part : IsPart (Some IsNames) false (Kind Name ∷ []) (Kind Comma ∷ 
 names_part = separated_part (IsKind Comma) (IsToken Name) (Kind Comma) (λ x t. t) (some_of_kind Comma) (of_kind Comma) (token_part Name) refl
 
 -- "include" names
-pub include_to : (xs : List Lexeme) → Then (One IsInclude) (Some IsNames) xs → Some IsIncludeOf xs
-include_to xs (front, back, e, i, (ns, n)) = (ns, (front, back, e, i, n))
+abbrev pub IncludeParts : List Lexeme → Type 0
+IncludeParts xs = Then (Some (IsWordAs (codes "include"))) (Some IsNames) xs
 
-pub include_from : (xs : List Lexeme) → Some IsIncludeOf xs → Then (One IsInclude) (Some IsNames) xs
-include_from xs (ns, (front, back, e, i, n)) = (front, back, e, i, (ns, n))
+pub include_to : (xs : List Lexeme) → IncludeParts xs → Some IsIncludeOf xs
+include_to xs (front, back, e, (t, i), (ns, n)) = ((t, ns), (front, back, e, i, n))
+
+pub include_from : (xs : List Lexeme) → Some IsIncludeOf xs → IncludeParts xs
+include_from xs ((t, ns), (front, back, e, i, n)) = (front, back, e, (t, i), (ns, n))
 
 pub include_part : IsPart (Some IsIncludeOf) false (Word (codes "include") ∷ []) (Kind Comma ∷ [])
-include_part = same_part include_to include_from (then_part (word_part (codes "include")) names_part refl)
+include_part = same_part include_to include_from (then_part (word_as_part (codes "include")) names_part refl)
+
+-- the word `include`, whichever token it is
+pub include_of : (xs : List Lexeme) → Then (One IsInclude) (Some IsNames) xs → Some IsIncludeOf xs
+include_of xs (front, back, e, i, (ns, n)) = include_to xs (front, back, e, word_to (codes "include") front i, (ns, n))
 
 pub include_begun : (xs : List Lexeme) → Some IsIncludeOf xs → BeginsWith IsInclude xs
-include_begun xs s = then_begun xs (include_from xs s)
+include_begun xs ((t, ns), (front, back, e, i, n)) =
+    let parts : Then (One IsInclude) (Some IsNames) xs = (front, back, e, word_from (codes "include") front (t, i), (ns, n)) in
+    then_begun xs parts
 
 -- name ":" numeral
 abbrev pub DeclaredParts : List Lexeme → Type 0
@@ -69,11 +88,11 @@ pub declared_part : IsPart (Some IsDeclared) false (Kind Name ∷ []) []
 declared_part = same_part declared_to declared_from (then_part (token_part Name) (then_part (kind_part Colon) (token_part Numeral) refl) refl)
 
 pub symbol_item_to : (xs : List Lexeme) → Either IsInclude (Some IsIncludeOf) (Some IsDeclared) xs → Some IsSymbolItem xs
-symbol_item_to xs (inl (ns, i)) = (IncludesClasses ns, i)
+symbol_item_to xs (inl ((t, ns), i)) = (IncludesClasses t ns, i)
 symbol_item_to xs (inr (other, ((n, a), d))) = (Declares n a, (other, d))
 
 pub symbol_item_from : (xs : List Lexeme) → Some IsSymbolItem xs → Either IsInclude (Some IsIncludeOf) (Some IsDeclared) xs
-symbol_item_from xs (IncludesClasses ns, i) = inl (ns, i)
+symbol_item_from xs (IncludesClasses t ns, i) = inl ((t, ns), i)
 symbol_item_from xs (Declares n a, (other, d)) = inr (other, ((n, a), d))
 
 pub symbol_item_part : IsPart (Some IsSymbolItem) false (Word (codes "include") ∷ Kind Name ∷ []) (Kind Comma ∷ [])
@@ -221,11 +240,11 @@ pub equation_part : IsPart (Some IsEquation) false term_marks (Word (codes "wher
 equation_part = same_part equation_to equation_from (then_part side_part (then_part (kind_part Equals) (then_part side_part where_part refl) refl) refl)
 
 pub item_to : (xs : List Lexeme) → Either IsInclude (Some IsIncludeOf) (Some IsEquation) xs → Some IsItem xs
-item_to xs (inl (ns, i)) = (IncludesOperations ns, i)
+item_to xs (inl ((t, ns), i)) = (IncludesOperations t ns, i)
 item_to xs (inr (other, (s, q))) = (Equates s, (other, q))
 
 pub item_from : (xs : List Lexeme) → Some IsItem xs → Either IsInclude (Some IsIncludeOf) (Some IsEquation) xs
-item_from xs (IncludesOperations ns, i) = inl (ns, i)
+item_from xs (IncludesOperations t ns, i) = inl ((t, ns), i)
 item_from xs (Equates s, (other, q)) = inr (other, (s, q))
 
 pub item_part : IsPart (Some IsItem) false (Word (codes "include") ∷ term_marks) (Kind Comma ∷ Word (codes "where") ∷ Kind OpenRound ∷ [])

@@ -5,11 +5,11 @@ use Rattle.term_lex.specs.declared.token.TokenKind.{TokenKind}
 use Rattle.term_lex.specs.declared.fault.Fault.{Fault}
 use Rattle.term_lex.specs.Tokens.{FirstToken}
 use Rattle.term_lex.specs.Lexemes.{Lexeme, lexeme, Scans, IsAnswer, misplaced}
-use Rattle.term_lex.specs.Parts.{One, BeginsWith, Some, NextIs}
+use Rattle.term_lex.specs.Parts.{IsWord, One, BeginsWith, Some, NextIs}
 use Rattle.term_lex.proofs.Marks.{Mark}
 use Rattle.term_lex.proofs.Parts.{IsPart}
 use Rattle.term_lex.proofs.Readings.{lexeme_found, one_lexeme, no_lexeme}
-use Rattle.term_lex.proofs.PlainAnswers.{kind_ok, kind_bad, kind_misplaced, answer_within}
+use Rattle.term_lex.proofs.PlainAnswers.{kind_ok, kind_bad, kind_misplaced, word_ok, word_bad, word_misplaced, answer_within}
 use Rattle.term_lex.proofs.ListAnswers.{same_answer}
 use Rattle.standmath.specs.Terms.{IsSomeTerm}
 use Rattle.standmath.specs.Answering as terms
@@ -17,9 +17,9 @@ use Rattle.standmath.specs.declared.error.ReadError.{ReadError}
 use Rattle.standmath.specs.declared.error.ReadError.TheVariants.{Refused, NoMemory}
 use Rattle.standmath.proofs.Terms.{term_part}
 use Rattle.def_file.specs.Errors.{of_read}
-use Rattle.def_file.specs.Grammar.{IsToken, IsTermFrom}
+use Rattle.def_file.specs.Grammar.{IsToken, IsWordAs, IsTermFrom}
 use Rattle.def_file.specs.Reading.{IsReadAs, IsRefused}
-use Rattle.def_file.proofs.Rules.{token_to, token_from, term_to, term_from}
+use Rattle.def_file.proofs.Rules.{token_to, token_from, word_to, word_from, term_to, term_from}
 
 module _ (text : List ℕ) (at : ℕ) where
   -- the next lexeme is that of the next token
@@ -52,6 +52,20 @@ module _ (text : List ℕ) (at : ℕ) where
 
   pub token_misplaced : (k : TokenKind) (t : Token) → FirstToken text at (Ok t) → (t.kind ≡ k → ⊥) → IsAnswer (Some (IsToken k)) text at (Err (misplaced t))
   token_misplaced k t first other = same_answer token_to token_from text at (Err (misplaced t)) (kind_misplaced text at k t first other)
+
+  -- a token that is a word
+  pub word_read : (w : List ℕ) (t : Token) → FirstToken text at (Ok t) → IsWord w (lexeme text t) → t.to ≤ length text → IsReadAs (Some (IsWordAs w)) (IsWordAs w t) text at t.to
+  word_read w t first is within = record {
+    answer = same_answer (word_to w) (word_from w) text at (Ok t.to) (word_ok text at w t first is);
+    form = (lexeme text t ∷ [], (lexeme_found text at t first, refl), (lexeme text t, refl, (is, refl)));
+    within = within;
+  }
+
+  pub word_as_bad : (w : List ℕ) (f : Fault) → FirstToken text at (Err f) → IsAnswer (Some (IsWordAs w)) text at (Err f)
+  word_as_bad w f bad = same_answer (word_to w) (word_from w) text at (Err f) (word_bad text at w f bad)
+
+  pub word_as_misplaced : (w : List ℕ) (t : Token) → FirstToken text at (Ok t) → (IsWord w (lexeme text t) → ⊥) → IsAnswer (Some (IsWordAs w)) text at (Err (misplaced t))
+  word_as_misplaced w t first other = same_answer (word_to w) (word_from w) text at (Err (misplaced t)) (word_misplaced text at w t first other)
 
   -- a part whose first token is bad
   pub first_bad : {G : List Lexeme → Type 0} {first more : List Mark} → IsPart G false first more → (f : Fault) → FirstToken text at (Err f) → IsAnswer G text at (Err f)

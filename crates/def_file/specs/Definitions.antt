@@ -18,6 +18,7 @@ use Rattle.def_file.specs.declared.definitions.Item.TheVariants as item
 use Rattle.def_file.specs.declared.definitions.Numbered.{Numbered}
 use Rattle.def_file.specs.declared.definitions.Definitions.{Definitions}
 use Rattle.def_file.specs.Trees.{Restriction, InClass, OneOf, Condition, Sides, EquationItem, Equates, IncludesOperations, File}
+use Rattle.def_file.specs.Pairs.{AreRelated}
 use Rattle.def_file.specs.Grammar.{IsSomeFile, IsFileText}
 use Rattle.def_file.specs.Operations.{operation_name}
 use Rattle.def_file.specs.Names.{Known, nothing_known, places_of, bytes_of, TakesAll, RefusesFirst}
@@ -62,16 +63,10 @@ module _ (text : List ℕ) (known : Known) where
     abbrev pub MeansSide : ℕ → Tree (PatternCell Head) → Type 0
     MeansSide byte pattern = (plain : Tree (PatternCell Head)) × IsPattern text known byte plain × (pattern ≡ map_heads (classed classes) plain)
 
-    -- the same of one term after another
-    abbrev pub MeanSides : List ℕ → List (Tree (PatternCell Head)) → Type 0
-    MeanSides [] patterns = patterns ≡ []
-    MeanSides (b ∷ bs) [] = ⊥
-    MeanSides (b ∷ bs) (p ∷ ps) = MeansSide b p × MeanSides bs ps
-
     -- what a variable may stand for: the alternatives, of which a class has none
     abbrev pub MeanChoices : Restriction → List (Tree (PatternCell Head)) → Type 0
     MeanChoices (InClass name) patterns = patterns ≡ []
-    MeanChoices (OneOf terms) patterns = MeanSides terms patterns
+    MeanChoices (OneOf terms) patterns = AreRelated MeansSide terms patterns
 
     -- a written qualifier means this one
     pub record MeansQualifier (c : Condition) (qualifier : Qualifier) : Type 0 where
@@ -79,32 +74,23 @@ module _ (text : List ℕ) (known : Known) where
       pub choices : MeanChoices c.restriction qualifier.choices
       pub place : qualifier.byte ≡ c.variable.from
 
-    -- the same of one qualifier after another
-    abbrev pub MeanQualifiers : List Condition → List Qualifier → Type 0
-    MeanQualifiers [] qualifiers = qualifiers ≡ []
-    MeanQualifiers (c ∷ cs) [] = ⊥
-    MeanQualifiers (c ∷ cs) (q ∷ qs) = MeansQualifier c q × MeanQualifiers cs qs
-
   -- written sides mean this equation
   pub record MeansEquation (sides : Sides) (equation : Written) : Type 0 where
     pub classes : List (ℕ × ℕ)
     pub are_in : AreIn sides.conditions classes
     pub left : MeansSide classes sides.left equation.left
     pub right : MeansSide classes sides.right equation.right
-    pub qualifiers : MeanQualifiers classes sides.conditions equation.qualifiers
+    pub qualifiers : AreRelated (MeansQualifier classes) sides.conditions equation.qualifiers
     pub place : equation.byte ≡ sides.left
 
-  -- the names mean these equation classes, which the item with the number includes
-  abbrev pub MeanOperations : ℕ → List Token → List Numbered → Type 0
-  MeanOperations number [] numbered = numbered ≡ []
-  MeanOperations number (t ∷ ts) [] = ⊥
-  MeanOperations number (t ∷ ts) (n ∷ ns) =
-      ((op : Op) × (bytes_of text t ≡ operation_name op) × (n ≡ record { item = item.Class op t.from; number = number })) × MeanOperations number ts ns
+  -- the name is that of an equation class, which the item with the number includes
+  abbrev pub MeansOperation : ℕ → Token → Numbered → Type 0
+  MeansOperation number name numbered = (op : Op) × (bytes_of text name ≡ operation_name op) × (numbered ≡ record { item = item.Class op name.from; number = number })
 
   -- the written item with the number means these items
   abbrev pub MeansItem : ℕ → EquationItem → List Numbered → Type 0
   MeansItem number (Equates sides) numbered = (equation : Written) × MeansEquation sides equation × (numbered ≡ record { item = item.Equation equation; number = number } ∷ [])
-  MeansItem number (IncludesOperations names) numbered = MeanOperations number names numbered
+  MeansItem number (IncludesOperations include names) numbered = AreRelated (MeansOperation number) names numbered
 
   -- the written items from the number on mean these items
   abbrev pub MeanItems : ℕ → List EquationItem → List Numbered → Type 0

@@ -13,6 +13,10 @@ use Rattle.def_file.specs.Trees.{SymbolItem, Declares, IncludesClasses, Restrict
 abbrev pub IsToken : TokenKind → Token → List Lexeme → Type 0
 IsToken kind token xs = One (λ x. IsKind kind x × (x.token ≡ token)) xs
 
+-- the word, which is this token
+abbrev pub IsWordAs : List ℕ → Token → List Lexeme → Type 0
+IsWordAs word token xs = One (λ x. IsWord word x × (x.token ≡ token)) xs
+
 -- a term whose first byte this is
 abbrev pub IsTermFrom : ℕ → List Lexeme → Type 0
 IsTermFrom byte xs = BeginsWith (λ x. x.token.from ≡ byte) xs × IsSomeTerm xs
@@ -25,9 +29,9 @@ IsInclude x = IsWord (codes "include") x
 abbrev pub IsNames : List Token → List Lexeme → Type 0
 IsNames names xs = Separated (IsKind Comma) (IsToken Name) names xs
 
--- "include" name { "," name }
-abbrev pub IsIncludeOf : List Token → List Lexeme → Type 0
-IsIncludeOf names xs = Then (One IsInclude) (IsNames names) xs
+-- "include" name { "," name }: the word and the names
+abbrev pub IsIncludeOf : Token × List Token → List Lexeme → Type 0
+IsIncludeOf include xs = Then (IsWordAs (codes "include") include.0) (IsNames include.1) xs
 
 -- name ":" numeral
 abbrev pub IsDeclared : Token × Token → List Lexeme → Type 0
@@ -36,7 +40,7 @@ IsDeclared d xs = Then (IsToken Name d.0) (Then (One (IsKind Colon)) (IsToken Nu
 -- a declaration or an include; `include` at the beginning is always the word
 abbrev pub IsSymbolItem : SymbolItem → List Lexeme → Type 0
 IsSymbolItem (Declares name arity) xs = (BeginsWith IsInclude xs → ⊥) × IsDeclared (name, arity) xs
-IsSymbolItem (IncludesClasses names) xs = IsIncludeOf names xs
+IsSymbolItem (IncludesClasses include names) xs = IsIncludeOf (include, names) xs
 
 -- name { "," name } ":"
 abbrev pub IsNamed : List Token → List Lexeme → Type 0
@@ -87,7 +91,7 @@ IsEquation sides xs =
 -- an equation or an include; `include` at the beginning is always the word
 abbrev pub IsItem : EquationItem → List Lexeme → Type 0
 IsItem (Equates sides) xs = (BeginsWith IsInclude xs → ⊥) × IsEquation sides xs
-IsItem (IncludesOperations names) xs = IsIncludeOf names xs
+IsItem (IncludesOperations include names) xs = IsIncludeOf (include, names) xs
 
 -- "Symbols" symbol items "." "For" "all" variables items "." End, with `;` between items and perhaps behind the last
 abbrev pub IsFile : File → List Lexeme → Type 0

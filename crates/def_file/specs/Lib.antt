@@ -8,3 +8,7 @@ pub mod Names
 pub mod Naming
 pub mod Sides
 pub mod Definitions
+pub mod Alike
+pub mod Unbuilt
+pub mod Pairs
+pub mod Taking

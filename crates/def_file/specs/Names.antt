@@ -34,7 +34,7 @@ pub data Place : Type 0 where
 -- the places of a symbol item
 abbrev pub symbol_places : SymbolItem → List Place
 symbol_places (DeclaresSymbol name arity) = Symbol name arity ∷ []
-symbol_places (IncludesClasses names) = map Class names
+symbol_places (IncludesClasses include names) = map Class names
 
 -- the places behind `is`
 abbrev pub restriction_places : Restriction → List Place
@@ -53,7 +53,7 @@ equation_places sides = Term sides.left ∷ Term sides.right ∷ condition_place
 -- the places of an item
 abbrev pub item_places : EquationItem → List Place
 item_places (Equates sides) = equation_places sides
-item_places (IncludesOperations names) = map Operation names
+item_places (IncludesOperations include names) = map Operation names
 
 -- the places of a file
 abbrev pub places_of : File → List Place

@@ -10,6 +10,8 @@ use Rattle.def_file.specs.declared.tree.Condition.{Condition}
 use Rattle.def_file.specs.declared.naming.Named.{Named}
 use Rattle.def_file.specs.Trees.{File}
 use Rattle.def_file.specs.Grammar.{IsFileText}
+use Rattle.def_file.specs.Sides.{all_limits, AnswersLimits}
+use Rattle.def_file.specs.Definitions.{equations_of, MeanItems}
 use Rattle.def_file.specs.Errors.{IfRefused}
 use Rattle.def_file.specs.Names.{Place, Symbol, Class, Variable, Term, Qualified, ClassOf, Operation, Known, nothing_known, places_of, TakesAll, RefusesFirst}
 
@@ -48,13 +50,19 @@ no_operations table variables = knowing table variables []
 abbrev pub qualified_names : List Condition → List Token
 qualified_names conditions = map (λ c. c.variable) conditions
 
+-- what is known when all names of a file are
+abbrev pub known_of : Named → Known
+known_of named = knowing named.symbols named.variables named.operations.items
+
 -- what the names of a file come to: all of them are taken, or the first that has a fault is refused; memory may have run out
 abbrev pub IsNaming : List ℕ → File → Result Named FileError → Type 0
-IsNaming text file (Ok named) = TakesAll text nothing_known (places_of file) (knowing named.symbols named.variables named.operations.items)
+IsNaming text file (Ok named) = TakesAll text nothing_known (places_of file) (known_of named)
 IsNaming text file (Err error) = IfRefused (RefusesFirst text nothing_known (places_of file)) error
 
--- the text is a file of few enough bytes, whose names have no fault and are these
+-- the text is a file of few enough bytes, whose names have no fault and are these; its items, and the first limit that it passes
 pub record IsNamed (text : List ℕ) (file : File) (named : Named) : Type 0 where
   pub short : length text ≤ 2 ^ 24
   pub reads : IsFileText text file
-  pub names : TakesAll text nothing_known (places_of file) (knowing named.symbols named.variables named.operations.items)
+  pub names : TakesAll text nothing_known (places_of file) (known_of named)
+  pub items : MeanItems text (known_of named) 1 file.items named.taken.items.items
+  pub limits : AnswersLimits text (known_of named) (all_limits 0 (equations_of file)) named.taken.fault

@@ -1,5 +1,5 @@
 -- The equations of a file, once its names are known, and what is wrong with their sides.
-use Rattle.std.specs.Prelude.{◌≡◌, ℕ, ◌+◌, ◌<◌, ◌≤◌, ◌⊎◌, List, [], ◌∷◌, ◌++◌, map}
+use Rattle.std.specs.Prelude.{◌≡◌, ℕ, ◌+◌, ◌<◌, ◌≤◌, ◌⊎◌, List, [], ◌∷◌, ◌++◌, map, Option, Some, None}
 use Rattle.std.specs.List.{flat_map}
 use Rattle.eq_base.specs.Tree.{Tree, node, size}
 use Rattle.eq_base.specs.Pattern.{PatternCell, fixed}
@@ -14,14 +14,16 @@ use Rattle.def_file.specs.Names.{Known}
 -- the equation of an item
 abbrev pub equation_of : EquationItem → List Sides
 equation_of (Equates sides) = sides ∷ []
-equation_of (IncludesOperations names) = []
+equation_of (IncludesOperations include names) = []
+
+-- the alternatives behind `is`
+abbrev pub alternatives_in : Restriction → List ℕ
+alternatives_in (InClass name) = []
+alternatives_in (OneOf terms) = terms
 
 -- the alternatives of a qualifier
 abbrev pub alternatives_of : Condition → List ℕ
-alternatives_of c = alternatives c.restriction where
-  alternatives : Restriction → List ℕ
-  alternatives (InClass name) = []
-  alternatives (OneOf terms) = terms
+alternatives_of c = alternatives_in c.restriction
 
 -- a limit that a file has to keep, at the byte of a side
 pub data Limit : Type 0 where
@@ -71,3 +73,8 @@ module _ (text : List ℕ) (known : Known) where
   abbrev pub PassesFirst : List Limit → Fault → Type 0
   PassesFirst [] fault = ⊥
   PassesFirst (l ∷ ls) fault = Passes l fault ⊎ (Keeps l × PassesFirst ls fault)
+
+  -- the fault of the first limit that is passed, or none where all are kept
+  abbrev pub AnswersLimits : List Limit → Option Fault → Type 0
+  AnswersLimits limits None = KeepsAll limits
+  AnswersLimits limits (Some fault) = PassesFirst limits fault

@@ -5,7 +5,7 @@ use Rattle.term_lex.specs.declared.token.Token.{Token}
 -- an item of the section of symbols
 pub data SymbolItem : Type 0 where
   Declares : (name arity : Token) → SymbolItem  -- name: arity
-  IncludesClasses : List Token → SymbolItem  -- include class, class
+  IncludesClasses : (include : Token) → List Token → SymbolItem  -- include class, class
 
 -- what a qualified variable may stand for
 pub data Restriction : Type 0 where
@@ -26,7 +26,7 @@ pub record Sides : Type 0 where
 -- an item of the section of equations
 pub data EquationItem : Type 0 where
   Equates : Sides → EquationItem  -- left = right where ..
-  IncludesOperations : List Token → EquationItem  -- include class, class
+  IncludesOperations : (include : Token) → List Token → EquationItem  -- include class, class
 
 -- a file: its symbols, its variables and its equations
 pub record File : Type 0 where

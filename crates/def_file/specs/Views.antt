@@ -14,7 +14,7 @@ use Rattle.def_file.specs.Trees.{SymbolItem, Declares, IncludesClasses, Restrict
 -- an item of the section of symbols
 abbrev pub symbol_item : SymbolValue → SymbolItem
 symbol_item (symbols.Declares name arity) = Declares name arity
-symbol_item (symbols.Includes names) = IncludesClasses names.items
+symbol_item (symbols.Includes include names) = IncludesClasses include names.items
 
 -- what a variable may stand for
 abbrev pub restriction : RestrictionValue → Restriction
@@ -32,7 +32,7 @@ sides s = record { left = s.left; right = s.right; conditions = map condition s.
 -- an item of the section of equations
 abbrev pub equation_item : ItemValue → EquationItem
 equation_item (items.Equates s) = Equates (sides s)
-equation_item (items.Includes names) = IncludesOperations names.items
+equation_item (items.Includes include names) = IncludesOperations include names.items
 
 -- a file
 abbrev pub file : FileValue → File

@@ -28,6 +28,13 @@ impl Model for Choices {
 }
 
 impl Choices {
+    /// These alternatives.
+    pub(crate) fn new(alternatives: Vec<Pattern>) -> Choices
+        ensures { result ≡ alternatives.items }
+    {
+        Choices { alternatives }
+    }
+
     /// How many alternatives there are.
     pub fn len(&self) -> usize
         ensures { result ≡ length self.now }
@@ -75,6 +82,13 @@ impl Model for Qualifiers {
 }
 
 impl Qualifiers {
+    /// These qualifiers.
+    pub(crate) fn new(list: Vec<Qualifier>) -> Qualifiers
+        ensures { result ≡ list.items }
+    {
+        Qualifiers { list }
+    }
+
     /// How many qualifiers there are.
     pub fn len(&self) -> usize
         ensures { result ≡ length self.now }
@@ -153,6 +167,20 @@ pub struct Definitions {
 }
 
 impl Items {
+    /// These items.
+    pub(crate) fn new(list: Vec<Numbered>) -> Items
+        ensures { result ≡ list.items }
+    {
+        Items { list }
+    }
+
+    /// The items as a vector, of which nothing is copied.
+    pub fn into_list(self) -> Vec<Numbered>
+        ensures { result.items ≡ self }
+    {
+        self.list
+    }
+
     /// The item with that place in the list.
     fn get(&self, place: usize) -> Option<&Numbered>
         ensures some { IfSome result (λ numbered. slice_get self.now place ≡ Some numbered.now) }

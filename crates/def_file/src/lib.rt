@@ -7,11 +7,13 @@ mod naming;
 mod phases;
 mod reading;
 mod tree;
+mod unbuilt;
 
 pub use definitions::{
     Choices, Definitions, Item, Items, Numbered, Qualifier, Qualifiers, Written,
 };
 pub use error::FileError;
+pub use phases::{read_definitions, unbuilt_at};
 
 #[cfg(test)]
 mod tests;

@@ -3,11 +3,15 @@ ghost use Rattle.std.specs.Prelude.{◌≡◌, ◌≤◌, ◌^◌, [], length, I
 ghost use Rattle.def_file.specs.Views.{file};
 ghost use Rattle.def_file.specs.Grammar.{IsFileText};
 ghost use Rattle.def_file.specs.Names.{nothing_known, places_of};
-ghost use Rattle.def_file.specs.Naming.{IsNaming};
+ghost use Rattle.def_file.specs.Naming.{IsNaming, known_of};
+ghost use Rattle.def_file.specs.Sides.{all_limits, AnswersLimits};
+ghost use Rattle.def_file.specs.Definitions.{MeanItems, equations_of};
 
+mod classes;
 mod conditions;
 mod faults;
 mod items;
+mod limits;
 mod operations;
 mod symbols;
 mod terms;
@@ -16,7 +20,7 @@ mod variables;
 use crate::error::FileError;
 use crate::tree::File;
 use eq_base::Op;
-use items::{TakenItem, take_items};
+use items::{Taken, take_items};
 use std::alloc::Global;
 use symbol_table::{Symbols, Variables};
 use symbols::take_symbols;
@@ -32,21 +36,23 @@ pub struct Named {
     /// The equation classes.
     pub operations: Vec<Op>,
     /// The items.
-    pub items: Vec<TakenItem>,
+    pub taken: Taken,
 }
 
 /// Takes the names of the file that the text is.
 pub fn take_names(alloc: Global, text: &[u8], written: &File) -> Result<Named, FileError>
     requires short { length text.now ≤ 2 ^ 24 }
     requires reads { IsFileText text.now (file written.now) }
-    ensures { IsNaming text.now (file written.now) result }
+    ensures naming { IsNaming text.now (file written.now) result }
+    ensures items { IfOk result (λ named. MeanItems text.now (known_of named) 1 (file written.now).items named.taken.items.items) }
+    ensures limits { IfOk result (λ named. AnswersLimits text.now (known_of named) (all_limits 0 (equations_of (file written.now))) named.taken.fault) }
 {
     let mut symbols = Symbols::new(alloc);
     take_symbols(text, &written.symbols, &mut symbols)?;
     let mut variables = Variables::new(alloc);
     take_variables(text, &written.variables, &symbols, &mut variables)?;
     let mut operations = Vec::new(alloc);
-    let items = take_items(
+    let taken = take_items(
         alloc,
         text,
         &written.items,
@@ -58,6 +64,6 @@ pub fn take_names(alloc: Global, text: &[u8], written: &File) -> Result<Named, F
         symbols,
         variables,
         operations,
-        items,
+        taken,
     })
 }

@@ -1,23 +1,32 @@
 // The phases of a file: its length, its reading and its names, each looked at where those before it have no fault.
-ghost use Rattle.std.specs.Prelude.{◌≡◌, IfOk, IfErr};
+ghost use Rattle.std.specs.Prelude.{◌≡◌, ◌≤◌, ◌^◌, length, IfOk, IfErr, slice_get, Result};
+ghost use Rattle.def_file.specs.Trees.{File as WrittenFile};
+ghost use Rattle.def_file.specs.Grammar.{IsFileText};
+ghost use Rattle.def_file.specs.Unbuilt.{unbuilt_of};
 ghost use Rattle.def_file.specs.Views.{file};
-ghost use Rattle.def_file.specs.Errors.{IfRefused};
-ghost use Rattle.def_file.specs.Definitions.{IsFileFault};
+ghost use Rattle.def_file.specs.Errors.{IfRefused, AnswersRight};
+ghost use Rattle.def_file.specs.Definitions.{IsFileFault, IsDefinitions};
 ghost use Rattle.def_file.specs.Naming.{IsNamed};
+ghost use Rattle.def_file.specs.Alike.{AnswersAlike};
+ghost use Rattle.def_file.specs.declared.definitions.Definitions.{Definitions as DefinitionsValue};
+ghost use Rattle.term_lex.specs.declared.fault.Fault.{Fault as FaultValue};
 
+use crate::definitions::{Definitions, Items};
 use crate::error::FileError;
 use crate::naming::{Named, take_names};
 use crate::reading::read_file;
 use crate::tree::File;
+use crate::unbuilt::first_unbuilt;
 use std::alloc::Global;
-use term_lex::{Fault, FaultKind};
+use term_lex::{Fault, FaultKind, Syntax};
 
 /// The most bytes of a file: 2^24.
 const FILE_BYTES: usize = 16_777_216;
 
-/// The file that the text is, and its names, or the first fault of its length, its reading and its names.
-pub fn read_named(alloc: Global, text: &[u8]) -> Result<(File, Named), FileError>
-    ensures ok { IfOk result (λ x. IsNamed text.now (file x.0) x.1) }
+/// The file that the text is, if it is of few enough bytes, or the first fault of its length and its reading.
+fn read_short(alloc: Global, text: &[u8]) -> Result<File, FileError>
+    ensures short { IfOk result (λ _. length text.now ≤ 2 ^ 24) }
+    ensures reads { IfOk result (λ written. IsFileText text.now (file written)) }
     ensures refused { IfErr result (IfRefused (IsFileFault text.now)) }
 {
     if text.len() > FILE_BYTES {
@@ -27,6 +36,65 @@ pub fn read_named(alloc: Global, text: &[u8]) -> Result<(File, Named), FileError
         }));
     }
     let (file, _) = read_file(alloc, text)?;
+    Ok(file)
+}
+
+/// The file that the text is, and its names, or the first fault of its length, its reading and its names.
+pub fn read_named(alloc: Global, text: &[u8]) -> Result<(File, Named), FileError>
+    ensures ok { IfOk result (λ x. IsNamed text.now (file x.0) x.1) }
+    ensures refused { IfErr result (IfRefused (IsFileFault text.now)) }
+{
+    let file = read_short(alloc, text)?;
     let named = take_names(alloc, text, &file)?;
     Ok((file, named))
+}
+
+/// The definitions that a text gives, or its first fault.
+fn definitions_in(alloc: Global, text: &[u8], syntax: Syntax) -> Result<Definitions, FileError>
+    ensures { AnswersRight (IsDefinitions text.now) result }
+{
+    let Syntax::Standmath = syntax;
+    let (_, named) = read_named(alloc, text)?;
+    if let Some(fault) = named.taken.fault {
+        return Err(FileError::Refused(fault));
+    }
+    Ok(Definitions {
+        symbols: named.symbols,
+        variables: named.variables,
+        items: Items::new(named.taken.items),
+    })
+}
+
+/// The definitions that a text gives, its terms in the notation. No other answer is right, but for the numbers of atoms and texts.
+///
+/// Linear time in the text, but for the qualifiers of an equation, which are compared with each other and with its
+/// variables; memory for the file and its definitions.
+///
+/// # Errors
+///
+/// The first fault of the first phase that has one: the length, the reading, the names and the sides; out of memory.
+pub fn read_definitions(
+    alloc: Global,
+    text: &[u8],
+    syntax: Syntax,
+) -> Result<Definitions, FileError>
+    ensures answer { AnswersRight (IsDefinitions text.now) result }
+    ensures only { (other : Result DefinitionsValue FaultValue) → IsDefinitions text.now other → AnswersAlike other result }
+{
+    definitions_in(alloc, text, syntax)
+}
+
+/// The byte of the first include or qualifier of a file, if it has one: that of the word `include`, or of the name before `is`.
+///
+/// Linear time in the text; memory for the file as it is written.
+///
+/// # Errors
+///
+/// The first fault of the length and the reading; out of memory.
+pub fn unbuilt_at(alloc: Global, text: &[u8]) -> Result<Option<usize>, FileError>
+    ensures ok { IfOk result (λ byte. (file : WrittenFile) × IsFileText text.now file × (byte ≡ slice_get (unbuilt_of file) 0)) }
+    ensures refused { IfErr result (IfRefused (IsFileFault text.now)) }
+{
+    let file = read_short(alloc, text)?;
+    Ok(first_unbuilt(&file))
 }

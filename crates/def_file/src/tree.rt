@@ -6,8 +6,8 @@ use term_lex::Token;
 pub enum SymbolItem {
     /// `name: arity`
     Declares(Token, Token),
-    /// `include class, class`
-    Includes(Vec<Token>),
+    /// `include class, class`: the word `include`, and the names.
+    Includes(Token, Vec<Token>),
 }
 
 /// What a qualified variable may stand for.
@@ -44,8 +44,8 @@ pub struct Sides {
 pub enum EquationItem {
     /// `left = right where ..`
     Equates(Sides),
-    /// `include class, class`
-    Includes(Vec<Token>),
+    /// `include class, class`: the word `include`, and the names.
+    Includes(Token, Vec<Token>),
 }
 
 /// A file.

@@ -10,6 +10,6 @@ pub mod Prints
 pub mod Printables
 pub mod Keeping
 pub mod Meanings
-mod OneReading
+pub mod OneReading
 pub mod Readables
 pub mod RoundTrip

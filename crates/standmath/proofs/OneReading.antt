@@ -33,7 +33,7 @@ use Rattle.standmath.proofs.Meanings.{ground_cells, faultless, name_is_no_litera
 -- ---- what is written
 
 -- one spelling has one list of names and literals
-same_cells : (w v : Written) → spelling w ≡ spelling v → cells (outline w) ≡ cells (outline v)
+pub same_cells : (w v : Written) → spelling w ≡ spelling v → cells (outline w) ≡ cells (outline v)
 same_cells w v e = sym (met_term w) ∙ ap (λ xs. (met_all xs nothing).heads) e ∙ met_term v
 
 -- lexemes are one term and its dot

@@ -26,7 +26,7 @@ module _ (table : Table) (name : List ℕ) (arity : ℕ) where
         | inr here ↦ inr (ap name_in here.1, here.0)
       ]
 
-  distinct-with_symbol : HasDistinctNames table → ¬ HasName table name → HasDistinctNames (with_symbol table name arity)
+  pub distinct-with_symbol : HasDistinctNames table → ¬ HasName table name → HasDistinctNames (with_symbol table name arity)
   distinct-with_symbol distinct fresh other one two a b first second =
       elim (old_or_new other one a first) [
         | inl before ↦ elim (old_or_new other two b second) [
@@ -67,7 +67,7 @@ module _ (table : Table) (class : SymbolClass) where
         | inr past ↦ inl (record { listed = is'.listed; known = λ below. absurd (omega arith) })
       ]
 
-  distinct-with_class : HasDistinctNames table → (class ≡ TruthValues → ¬ HasTruthName table) → HasDistinctNames (with_class table class)
+  pub distinct-with_class : HasDistinctNames table → (class ≡ TruthValues → ¬ HasTruthName table) → HasDistinctNames (with_class table class)
   distinct-with_class distinct undeclared name one two a b first second =
       elim (old_or_truth_value name one a first) [
         | inl before ↦ elim (old_or_truth_value name two b second) [

@@ -77,7 +77,7 @@ Interns-insert_key keys key number stored at same = record {
   kept = bytes_of-insert_key keys key;
 }
 
-AreDistinct-push : (list : List (List ℕ)) (bytes : List ℕ) → AreDistinct list → ¬ Contains list bytes → AreDistinct (list ++ bytes ∷ [])
+pub AreDistinct-push : (list : List (List ℕ)) (bytes : List ℕ) → AreDistinct list → ¬ Contains list bytes → AreDistinct (list ++ bytes ∷ [])
 AreDistinct-push list bytes distinct fresh other one two first second =
     elim (old_or_last list bytes one other first) [
       | inl before ↦ elim (old_or_last list bytes two other second) [

@@ -1,7 +1,7 @@
 pub mod Declarations
 mod Places
-mod Keys
+pub mod Keys
 mod Numbers
 mod LookUps
-mod Growing
+pub mod Growing
 pub mod Keeping

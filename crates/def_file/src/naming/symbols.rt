@@ -74,7 +74,7 @@ fn take_item(text: &[u8], item: &SymbolItem, symbols: &mut Symbols) -> Result<()
 {
     match item {
         SymbolItem::Declares(name, arity) => take_declaration(text, *name, *arity, symbols),
-        SymbolItem::Includes(names) => take_classes(text, names, symbols),
+        SymbolItem::Includes(_, names) => take_classes(text, names, symbols),
     }
 }
 

@@ -38,8 +38,8 @@ fn read_item(alloc: Global, text: &[u8], at: usize) -> Result<(EquationItem, usi
     ensures { IsRead IsItem equation_item text.now at result }
 {
     if next_is_word(text, at, b"include") {
-        let (names, names_end) = read_include(alloc, text, at)?;
-        return Ok((EquationItem::Includes(names), names_end));
+        let ((include, names), names_end) = read_include(alloc, text, at)?;
+        return Ok((EquationItem::Includes(include, names), names_end));
     }
     let (sides, end) = read_equation(alloc, text, at)?;
     Ok((EquationItem::Equates(sides), end))

@@ -5,7 +5,7 @@ ghost use Rattle.term_lex.specs.Parts.{IsKind, Led};
 ghost use Rattle.def_file.specs.Grammar.{IsToken, IsNames, IsIncludeOf};
 ghost use Rattle.def_file.specs.Reading.{IsRead};
 
-use super::tokens::{next_is, read_token, skip_kind, skip_word};
+use super::tokens::{next_is, read_token, read_word, skip_kind};
 use crate::error::FileError;
 use std::alloc::Global;
 use term_lex::{Token, TokenKind};
@@ -38,11 +38,15 @@ pub fn read_names(alloc: Global, text: &[u8], at: usize) -> Result<(Vec<Token>, 
 }
 
 /// The word `include` and names.
-pub fn read_include(alloc: Global, text: &[u8], at: usize) -> Result<(Vec<Token>, usize), FileError>
+pub fn read_include(
+    alloc: Global,
+    text: &[u8],
+    at: usize,
+) -> Result<((Token, Vec<Token>), usize), FileError>
     requires { at ≤ length text.now }
-    ensures { IsRead IsIncludeOf (λ names. names.items) text.now at result }
+    ensures { IsRead IsIncludeOf (λ include. (include.0, include.1.items)) text.now at result }
 {
-    let names_at = skip_word(text, at, b"include")?;
+    let (include, names_at) = read_word(text, at, b"include")?;
     let (names, end) = read_names(alloc, text, names_at)?;
-    Ok((names, end))
+    Ok(((include, names), end))
 }

@@ -30,8 +30,8 @@ fn read_symbol_item(alloc: Global, text: &[u8], at: usize) -> Result<(SymbolItem
     ensures { IsRead IsSymbolItem symbol_item text.now at result }
 {
     if next_is_word(text, at, b"include") {
-        let (names, names_end) = read_include(alloc, text, at)?;
-        return Ok((SymbolItem::Includes(names), names_end));
+        let ((include, names), names_end) = read_include(alloc, text, at)?;
+        return Ok((SymbolItem::Includes(include, names), names_end));
     }
     let ((name, arity), end) = read_declaration(text, at)?;
     Ok((SymbolItem::Declares(name, arity), end))

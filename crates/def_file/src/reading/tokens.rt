@@ -2,7 +2,7 @@
 ghost use Rattle.std.specs.Prelude.{◌≡◌, ◌≤◌, length, true, false};
 ghost use Rattle.term_lex.specs.Lexemes.{lexeme};
 ghost use Rattle.term_lex.specs.Parts.{IsKind, IsWord, One, NextIs};
-ghost use Rattle.def_file.specs.Grammar.{IsToken};
+ghost use Rattle.def_file.specs.Grammar.{IsToken, IsWordAs};
 ghost use Rattle.def_file.specs.Reading.{IsSkip, IsRead};
 
 use crate::error::FileError;
@@ -57,6 +57,18 @@ pub fn read_token(text: &[u8], at: usize, kind: TokenKind) -> Result<(Token, usi
 {
     let token = next_token(text, at)?;
     if !is_kind(token, kind) {
+        return Err(FileError::Refused(misplaced(token)));
+    }
+    Ok((token, token.to))
+}
+
+/// The next token, which is the word, and the place after it.
+pub fn read_word(text: &[u8], at: usize, word: &[u8]) -> Result<(Token, usize), FileError>
+    requires { at ≤ length text.now }
+    ensures { IsRead (IsWordAs word.now) (λ token. token) text.now at result }
+{
+    let token = next_token(text, at)?;
+    if !is_word(text, token, word) {
         return Err(FileError::Refused(misplaced(token)));
     }
     Ok((token, token.to))

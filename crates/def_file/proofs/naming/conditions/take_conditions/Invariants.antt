@@ -4,6 +4,8 @@ use Rattle.symbol_table.specs.Table.{Keeps}
 use Rattle.def_file.specs.Views.{condition}
 use Rattle.def_file.specs.Names.{condition_places}
 use Rattle.def_file.specs.Naming.{ArePlaced, knowing, qualified_names}
+use Rattle.def_file.specs.Pairs.{AreRelated}
+use Rattle.def_file.specs.Taking.{Lasts, TakesCondition}
 use Rattle.def_file.proofs.Namings.{IsUnderWay}
 use Rattle.def_file.proofs.naming.conditions.take_conditions.Given as goal
 
@@ -12,4 +14,5 @@ invariant-loop-i l = record {
   under_way : (operations : List Op) → IsUnderWay l.text (knowing l.initial.symbols l.variables operations) (condition_places [] (map condition l.conditions)) (knowing l.symbols l.variables operations) (condition_places (qualified_names (take l.i l.conditions)) (map condition (drop l.i l.conditions)));
   placed : ArePlaced l.text (condition_places (qualified_names (take l.i l.conditions)) (map condition (drop l.i l.conditions)));
   keeps : Keeps l.initial.symbols l.symbols;
+  conditions : Lasts (λ known. AreRelated (λ c t. TakesCondition l.text known c.variable c.restriction t) (map condition (take l.i l.conditions)) l.taken.items) l.symbols l.variables;
 }

@@ -3,6 +3,10 @@ use Rattle.def_file.specs.Views.{condition, sides}
 use Rattle.def_file.specs.Errors.{IfRefused}
 use Rattle.def_file.specs.Names.{Term, condition_places, equation_places, TakesAll, RefusesFirst}
 use Rattle.def_file.specs.Naming.{knowing}
+use Rattle.def_file.specs.Pairs.{AreRelated}
+use Rattle.def_file.specs.Taking.{TakesCondition}
+use Rattle.def_file.specs.Trees.{Condition as Written}
+use Rattle.def_file.specs.declared.naming.conditions.TakenCondition.{TakenCondition}
 use Rattle.symbol_table.proofs.Keeping.{keeps_trans}
 use Rattle.def_file.proofs.Namings.{none_taken, more_taken, one_refused, taking_refused}
 use Rattle.def_file.proofs.naming.items.take_equation.Goals as goal
@@ -40,3 +44,13 @@ returns-in_err-conditions-clause-keeps c = keeps_trans _ _ _ c.take_term.ensures
 
 pub returns-clause-keeps : goal.returns-clause-keeps
 returns-clause-keeps c = keeps_trans _ _ _ c.take_term.ensures.keeps (keeps_trans _ _ _ c.take_term-2.ensures.keeps c.take_conditions.ensures.keeps)
+
+pub returns-clause-equation : goal.returns-clause-equation
+returns-clause-equation c = λ later operations k.
+    let behind_right = keeps_trans _ _ _ c.take_conditions.ensures.keeps k in
+    let behind_left = keeps_trans _ _ _ c.take_term-2.ensures.keeps behind_right in
+    record {
+      left = c.in_ok-left.ensures.pattern later operations behind_left;
+      right = c.in_ok-right.ensures.pattern later operations behind_right;
+      conditions = subst (λ cs. AreRelated (λ (w : Written) (t : TakenCondition). TakesCondition c.args.text.now (knowing later c.args.variables.now operations) w.variable w.restriction t) (map condition cs) c.in_ok-conditions.conditions.items) c.deref.ensures.value (c.in_ok-conditions.ensures.conditions later operations k);
+    }

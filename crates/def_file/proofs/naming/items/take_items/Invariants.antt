@@ -1,15 +1,22 @@
-use Rattle.std.proofs.Common.{drop, map}
+use Rattle.std.proofs.Common.{◌≡◌, ◌≤◌, drop, take, map, length}
 use Rattle.std.specs.List.{flat_map}
 use Rattle.symbol_table.specs.Table.{Keeps}
 use Rattle.def_file.specs.Views.{equation_item}
 use Rattle.def_file.specs.Names.{item_places}
 use Rattle.def_file.specs.Naming.{ArePlaced, knowing}
+use Rattle.def_file.specs.Sides.{equation_of, all_limits, AnswersLimits}
+use Rattle.def_file.specs.Definitions.{MeanItems}
+use Rattle.def_file.specs.Taking.{Lasts}
 use Rattle.def_file.proofs.Namings.{IsUnderWay}
 use Rattle.def_file.proofs.naming.items.take_items.Given as goal
 
-abbrev pub invariant-loop-item : goal.invariant-loop-item
-invariant-loop-item l = record {
-  under_way : IsUnderWay l.text (knowing l.initial.symbols l.variables l.initial.operations.items) (flat_map item_places (map equation_item l.items)) (knowing l.symbols l.variables l.operations.items) (flat_map item_places (map equation_item (drop l.item-index l.items)));
-  placed : ArePlaced l.text (flat_map item_places (map equation_item (drop l.item-index l.items)));
+abbrev pub invariant-loop-i : goal.invariant-loop-i
+invariant-loop-i l = record {
+  under_way : IsUnderWay l.text (knowing l.initial.symbols l.variables l.initial.operations.items) (flat_map item_places (map equation_item l.items)) (knowing l.symbols l.variables l.operations.items) (flat_map item_places (map equation_item (drop l.i l.items)));
+  placed : ArePlaced l.text (flat_map item_places (map equation_item (drop l.i l.items)));
   keeps : Keeps l.initial.symbols l.symbols;
+  few : l.taken.equations ≤ l.i;
+  equations : l.taken.equations ≡ length (flat_map equation_of (map equation_item (take l.i l.items)));
+  items : Lasts (λ known. MeanItems l.text known 1 (map equation_item (take l.i l.items)) l.taken.items.items) l.symbols l.variables;
+  limits : Lasts (λ known. AnswersLimits l.text known (all_limits 0 (flat_map equation_of (map equation_item (take l.i l.items)))) l.taken.fault) l.symbols l.variables;
 }

@@ -5,13 +5,13 @@ use Rattle.def_file.proofs.Readings.{read_refused}
 use Rattle.def_file.proofs.Deciding.{symbol_item_include_refused, symbol_item_include, symbol_item_declared_refused, symbol_item_declared}
 use Rattle.def_file.proofs.reading.symbols.read_symbol_item.Goals as goal
 
-pub returns-in_err-names : goal.returns-in_err-names
-returns-in_err-names c =
-    let same : c.from_residual.result ≡ Err c.in_err-names.field-0.0 = search rules in
-    read_refused IsSymbolItem symbol_item c.args.text.now c.args.at _ c.in_err-names.field-0.0 same (symbol_item_include_refused c.args.text.now c.args.at (c.next_is_word.ensures.yes c.if-next_is_word.true) c.in_err-names.field-0.0 c.in_err-names.ensures)
+pub returns-in_err-include : goal.returns-in_err-include
+returns-in_err-include c =
+    let same : c.from_residual.result ≡ Err c.in_err-include.field-0.0 = search rules in
+    read_refused IsSymbolItem symbol_item c.args.text.now c.args.at _ c.in_err-include.field-0.0 same (symbol_item_include_refused c.args.text.now c.args.at (c.next_is_word.ensures.yes c.if-next_is_word.true) c.in_err-include.field-0.0 c.in_err-include.ensures)
 
 pub returns-then-next_is_word : goal.returns-then-next_is_word
-returns-then-next_is_word c = symbol_item_include c.args.text.now c.args.at (c.next_is_word.ensures.yes c.if-next_is_word.true) c.in_ok-names.names.items c.in_ok-names.names_end c.in_ok-names.ensures
+returns-then-next_is_word c = symbol_item_include c.args.text.now c.args.at (c.next_is_word.ensures.yes c.if-next_is_word.true) (c.in_ok-include.include, c.in_ok-include.names.items) c.in_ok-include.names_end c.in_ok-include.ensures
 
 pub returns-in_err-name : goal.returns-in_err-name
 returns-in_err-name c =

@@ -1,0 +1,5 @@
+use Rattle.def_file.proofs.OneAnswer.{only_answer}
+use Rattle.def_file.proofs.phases.read_definitions.Goals as goal
+
+pub returns-clause-only : goal.returns-clause-only
+returns-clause-only c = λ other right. only_answer c.args.text.now other c.definitions_in.result right c.definitions_in.ensures

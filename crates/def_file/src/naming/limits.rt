@@ -1,0 +1,110 @@
+// What is wrong with the sides of an equation.
+ghost use Rattle.std.specs.Prelude.{◌≡◌, ◌↔◌, ℕ, List, ◌∷◌, [], map, IsTrue};
+ghost use Rattle.std.specs.List.{flat_map};
+ghost use Rattle.def_file.specs.Views.{condition, restriction, sides};
+ghost use Rattle.def_file.specs.Names.{Known};
+ghost use Rattle.def_file.specs.Trees.{Condition as WrittenCondition};
+ghost use Rattle.def_file.specs.Pairs.{AreRelated};
+ghost use Rattle.def_file.specs.Sides.{Cells, IsApplication, IsPattern, alternatives_in, alternatives_of, limits_of, AnswersLimits};
+ghost use Rattle.def_file.specs.Taking.{TakesChoice, TakesCondition, TakesEquation};
+ghost use Rattle.def_file.specs.declared.naming.conditions.TakenCondition.{TakenCondition as TakenValue};
+
+use super::conditions::{Choice, TakenCondition};
+use super::items::TakenEquation;
+use crate::tree::{Condition, Restriction, Sides};
+use eq_base::{Cell, Head, Pattern};
+use term_lex::{Fault, FaultKind};
+
+/// The most equations of a file.
+const EQUATIONS: usize = 2048;
+
+/// The most cells of a left side or an alternative.
+const LEFT_CELLS: usize = 255;
+
+/// The most cells of a right side.
+const RIGHT_CELLS: usize = 65_535;
+
+/// Whether a symbol stands at the root.
+fn is_application(pattern: &Pattern) -> bool
+    ensures { IsTrue result ↔ IsApplication pattern.now }
+{
+    match pattern.cell(0) {
+        Cell::Head(Head::Symbol(_), _) => true,
+        _ => false,
+    }
+}
+
+/// The first of the alternatives that is too long.
+fn alternatives_fault(terms: &[usize], patterns: &[Pattern]) -> Option<Fault>
+    ensures { (text : List ℕ) (known : Known) → AreRelated (IsPattern text known) terms.now patterns.now → AnswersLimits text known (map (Cells 255) terms.now) result }
+{
+    for (i, byte) in terms.iter().enumerate() {
+        let Some(pattern) = patterns.get(i) else {
+            return None;
+        };
+        if pattern.len() > LEFT_CELLS {
+            return Some(Fault {
+                kind: FaultKind::SideLong,
+                byte: *byte,
+            });
+        }
+    }
+    None
+}
+
+/// The first alternative behind `is` that is too long.
+fn choice_fault(written: &Restriction, taken: &Choice) -> Option<Fault>
+    ensures { (text : List ℕ) (known : Known) → TakesChoice text known (restriction written.now) taken.now → AnswersLimits text known (map (Cells 255) (alternatives_in (restriction written.now))) result }
+{
+    match (written, taken) {
+        (Restriction::OneOf(terms), Choice::OneOf(patterns)) => alternatives_fault(terms, patterns),
+        _ => None,
+    }
+}
+
+/// The first alternative of conditions that is too long.
+fn conditions_fault(conditions: &[Condition], taken: &[TakenCondition]) -> Option<Fault>
+    ensures { (text : List ℕ) (known : Known) → AreRelated (λ (c : WrittenCondition) (t : TakenValue). TakesCondition text known c.variable c.restriction t) (map condition conditions.now) taken.now → AnswersLimits text known (map (Cells 255) (flat_map alternatives_of (map condition conditions.now))) result }
+{
+    for (i, written) in conditions.iter().enumerate() {
+        let Some(next) = taken.get(i) else {
+            return None;
+        };
+        let fault = choice_fault(&written.restriction, &next.choice);
+        if fault.is_some() {
+            return fault;
+        }
+    }
+    None
+}
+
+/// The first limit that an equation passes, where so many stand before it.
+pub fn equation_fault(before: usize, written: &Sides, taken: &TakenEquation) -> Option<Fault>
+    ensures { (text : List ℕ) (known : Known) → TakesEquation text known (sides written.now) taken.now → AnswersLimits text known (limits_of before (sides written.now)) result }
+{
+    if before >= EQUATIONS {
+        return Some(Fault {
+            kind: FaultKind::EquationsPast,
+            byte: written.left,
+        });
+    }
+    if !is_application(&taken.left) {
+        return Some(Fault {
+            kind: FaultKind::LeftNotApplication,
+            byte: written.left,
+        });
+    }
+    if taken.left.len() > LEFT_CELLS {
+        return Some(Fault {
+            kind: FaultKind::SideLong,
+            byte: written.left,
+        });
+    }
+    if taken.right.len() > RIGHT_CELLS {
+        return Some(Fault {
+            kind: FaultKind::SideLong,
+            byte: written.right,
+        });
+    }
+    conditions_fault(&written.conditions, &taken.conditions)
+}
