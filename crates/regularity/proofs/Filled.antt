@@ -51,7 +51,7 @@ mutual
   fit_own n (grow p ps) = (fits_own n p, fit_own (n + size p) ps)
 
 -- heads over different numbers of arguments clash
-counts_same : (arity : heads.Head → ℕ) (g h : heads.Head) (us vs : Patterns) → count us ≡ arity g → count vs ≡ arity h → (DoClash in_symbol_class (fixed g) (fixed h) → ⊥) → count us ≡ count vs
+pub counts_same : (arity : heads.Head → ℕ) (g h : heads.Head) (us vs : Patterns) → count us ≡ arity g → count vs ≡ arity h → (DoClash in_symbol_class (fixed g) (fixed h) → ⊥) → count us ≡ count vs
 counts_same arity g h us vs a b none =
     ⊎_elim (λ e. e) (λ differ. absurd (none (tt, tt, λ k e f. differ (a ∙ ap arity (e ∙ sym f) ∙ sym b)))) (cases_eq (count us) (count vs))
 

@@ -10,3 +10,6 @@ mod Readings
 mod Filled
 mod Singles
 mod Twos
+pub mod Tables
+mod Shared
+mod Parts

@@ -32,7 +32,7 @@ module _ (es : List Equation) (w : AreWellFormed es) where
   pub well_formed_at : (n : ℕ) (e : Equation) → slice_get es n ≡ Some e → IsWellFormed e
   well_formed_at n e listed = subst IsWellFormed (get_or_from_slice_get es n e e listed) (w.each n e (slice_get_within es n e listed))
 
-  has_arities_at : (n : ℕ) (e : Equation) → slice_get es n ≡ Some e → HasArities w.arity e.left
+  pub has_arities_at : (n : ℕ) (e : Equation) → slice_get es n ≡ Some e → HasArities w.arity e.left
   has_arities_at n e listed = subst (λ (d : Equation). HasArities w.arity d.left) (get_or_from_slice_get es n e e listed) (w.arities n e (slice_get_within es n e listed))
 
   -- a part of a left side and a left side agree on the number of arguments

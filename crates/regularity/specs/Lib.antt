@@ -6,3 +6,4 @@ pub mod Single
 pub mod Violations
 pub mod Listing
 pub mod WellFormed
+pub mod Shared

@@ -1,10 +1,12 @@
 -- What the checks ask of a list of equations.
-use Rattle.std.specs.Prelude.{◌≡◌, ℕ, ◌<◌, ◌≤◌, List, length, Some, IsTrue, All, slice_get}
+use Rattle.std.specs.Prelude.{◌≡◌, ℕ, ◌<◌, ◌≤◌, List, length, Some, IsTrue, All, slice_get, slice_index_or}
 use Rattle.eq_base.specs.Tree.{Tree, head_of, size}
 use Rattle.eq_base.specs.Pattern.{PatternCell, fixed}
 use Rattle.eq_base.specs.Meeting.{in_symbol_class}
 use Rattle.eq_base.specs.declared.head.Head as heads
-use Rattle.eq_base.specs.declared.head.Head.TheVariants.{Symbol}
+use Rattle.eq_base.specs.declared.head.Head.TheVariants.{Symbol, Numeral, Atom, Text}
+use Rattle.eq_base.specs.declared.head.Cell as cells
+use Rattle.eq_base.specs.declared.head.Cell.TheVariants.{Head, Var, Class}
 use Rattle.eq_base.specs.declared.rules.Right.{Right}
 use Rattle.eq_base.specs.declared.rules.Right.TheVariants as rights
 use Rattle.eq_base.specs.declared.rules.Equation.{Equation}
@@ -38,3 +40,33 @@ pub record IsPlaceOf (equations : List Equation) (number place : ℕ) : Type 0 w
   pub equation : Equation
   pub listed : slice_get equations number ≡ Some equation
   pub there : place < size equation.left
+
+-- ---- by a table of symbols
+
+-- the number of arguments that a table gives a head: each symbol its entry, and none to symbols past the table and to other heads
+abbrev pub arity_by : List ℕ → heads.Head → ℕ
+arity_by table (Symbol s) = slice_index_or table s 0
+arity_by table (Numeral i) = 0
+arity_by table (Atom a) = 0
+arity_by table (Text t) = 0
+
+-- the heads of classes have no arguments
+abbrev pub GivesConstantsNone : List ℕ → Type 0
+GivesConstantsNone table = (class : ℕ) (h : heads.Head) → IsTrue (in_symbol_class class h) → arity_by table h ≡ 0
+
+-- a head in the cell has as many arguments as the table says
+abbrev pub HasArityBy : List ℕ → cells.Cell → Type 0
+HasArityBy table (Head h n) = n ≡ arity_by table h
+HasArityBy table (Var x) = Unit {0}
+HasArityBy table (Class x class) = Unit {0}
+
+-- the equation is well formed, and the heads of its left side have as many arguments as the table says
+pub record IsWellFormedBy (table : List ℕ) (e : Equation) : Type 0 where
+  pub well_formed : IsWellFormed e
+  pub arities : HasArities (arity_by table) e.left
+
+-- the equations are well formed, and the table has the number of arguments of each head
+pub record AreWellFormedBy (table : List ℕ) (equations : List Equation) : Type 0 where
+  pub few : length equations ≤ 2048
+  pub each : All (IsWellFormedBy table) equations
+  pub constants : GivesConstantsNone table

@@ -4,12 +4,18 @@
 pub mod breaks;
 pub mod common;
 pub mod facing;
+pub mod laws;
 mod merge;
 pub mod pairs;
 pub mod single;
+pub mod well_formed;
 
 pub use breaks::{Break, Breaks};
 pub use common::has_common;
 pub use facing::{Facing, facing_of};
 pub use pairs::{is_tested, overlaps};
 pub use single::{check_single, tell_singles};
+pub use well_formed::are_well_formed;
+
+#[cfg(test)]
+mod tests;

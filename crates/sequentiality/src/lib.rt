@@ -8,3 +8,6 @@ pub mod regular;
 pub use comparison::{Comparison, compare};
 pub use order::breaks;
 pub use regular::{AdmitError, Regular};
+
+#[cfg(test)]
+mod tests;

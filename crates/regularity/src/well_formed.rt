@@ -1,0 +1,98 @@
+// Whether equations are well formed, by a table of the numbers of arguments of symbols.
+ghost use Rattle.std.specs.Prelude.{◌≡◌, ◌↔◌, IsTrue};
+ghost use Rattle.regularity.specs.Arities.{HasArities};
+ghost use Rattle.regularity.specs.WellFormed.{right_size, HasSymbolRoot, AreWellFormed, arity_by, GivesConstantsNone, HasArityBy, IsWellFormedBy, AreWellFormedBy};
+
+use eq_base::{Cell, Equation, Head, Pattern, Right, Rules};
+
+// The most equations, and the most cells of their sides.
+const MOST_EQUATIONS: usize = 2048;
+
+const MOST_LEFT_CELLS: usize = 255;
+
+const MOST_RIGHT_CELLS: usize = 65535;
+
+/// Whether equations are few and small enough, have a symbol at the root of each left side, and give each
+/// head of a left side the number of arguments that a table has for it, by the numbers of symbols. A
+/// symbol past the table has none, as the truth values have to. It takes no memory, and looks at each
+/// cell of a left side once.
+pub fn are_well_formed(rules: &Rules, arities: &[u8]) -> bool
+    ensures exact { IsTrue result ↔ AreWellFormedBy arities.now rules.now }
+    ensures well_formed { IsTrue result → AreWellFormed rules.now }
+{
+    if rules.len() > MOST_EQUATIONS || !gives_constants_none(arities) {
+        return false;
+    }
+    for number in 0..rules.len() {
+        if !is_well_formed(rules.equation(number), arities) {
+            return false;
+        }
+    }
+    true
+}
+
+// Whether an equation is well formed by a table.
+fn is_well_formed(equation: &Equation, arities: &[u8]) -> bool
+    ensures { IsTrue result ↔ IsWellFormedBy arities.now equation.now }
+{
+    has_symbol_root(&equation.left)
+        && equation.left.len() <= MOST_LEFT_CELLS
+        && right_len(&equation.right) <= MOST_RIGHT_CELLS
+        && has_arities(&equation.left, arities)
+}
+
+// Whether the root of a left side is a symbol.
+fn has_symbol_root(left: &Pattern) -> bool
+    ensures { IsTrue result ↔ HasSymbolRoot left.now }
+{
+    matches!(left.cell(0), Cell::Head(Head::Symbol(_), _))
+}
+
+// How many cells a right side has; an operation has none.
+fn right_len(right: &Right) -> usize
+    ensures { result ≡ right_size right.now }
+{
+    match right {
+        Right::Tree(right) => right.len(),
+        Right::Schema(_) => 0,
+    }
+}
+
+// Whether each head of a pattern has as many arguments as a table says.
+fn has_arities(pattern: &Pattern, arities: &[u8]) -> bool
+    ensures { IsTrue result ↔ HasArities (arity_by arities.now) pattern.now }
+{
+    for at in 0..pattern.len() {
+        if !has_arity(pattern.cell(at), arities) {
+            return false;
+        }
+    }
+    true
+}
+
+// Whether a head in a cell has as many arguments as a table says.
+fn has_arity(cell: Cell, arities: &[u8]) -> bool
+    ensures { IsTrue result ↔ HasArityBy arities.now cell }
+{
+    match cell {
+        Cell::Head(head, arity) => arity == arity_of(head, arities),
+        Cell::Var(_) | Cell::Class(_, _) => true,
+    }
+}
+
+// The number of arguments that a table gives a head.
+fn arity_of(head: Head, arities: &[u8]) -> u8
+    ensures { result ≡ arity_by arities.now head }
+{
+    match head {
+        Head::Symbol(symbol) => arities.get(symbol as usize).copied().unwrap_or(0),
+        Head::Numeral(_) | Head::Atom(_) | Head::Text(_) => 0,
+    }
+}
+
+// Whether a table gives the heads of classes no arguments: of these it holds the truth values alone.
+fn gives_constants_none(arities: &[u8]) -> bool
+    ensures { IsTrue result ↔ GivesConstantsNone arities.now }
+{
+    arity_of(Head::Symbol(0), arities) == 0 && arity_of(Head::Symbol(1), arities) == 0
+}
