@@ -20,16 +20,16 @@ pub some_node : (t : Tree Head) → 0 < length (subtrees t)
 some_node (node h args) = omega arith
 
 -- what the line of the one term leaves is what its text leaves
-pub line_is_text : (d : Definitions) (text : List ℕ) (t : Tree Head) (outcome : Outcome) (written : List ℕ) → Holds d.table text (t ∷ []) → LineLeft d t outcome written → TextLeft d text outcome written
-line_is_text d text t Answered written h l =
+pub line_is_text : (budget : ℕ) (d : Definitions) (text : List ℕ) (t : Tree Head) (outcome : Outcome) (written : List ℕ) → Holds d.table text (t ∷ []) → LineLeft budget d t outcome written → TextLeft budget d text outcome written
+line_is_text budget d text t Answered written h l =
     (l.0 ∷ [], record { terms = t ∷ []; reads = h; fit = (l.1, tt) }, l.2 ∙ sym (append-nil (ended l.0)))
-line_is_text d text t Questions written h l =
+line_is_text budget d text t Questions written h l =
     (l.0 ∷ [], record { answers = record { terms = t ∷ []; reads = h; fit = (inr l.1, tt) }; some = inl l.1 }, l.2 ∙ sym (append-nil (ended l.0)))
-line_is_text d text t (Stopped WriteFailed) written h l =
+line_is_text budget d text t (Stopped WriteFailed) written h l =
     (l.0 ∷ [], l.1, record { terms = t ∷ []; last = h.last; reads = h.reads; fit = (l.2, tt) }, l.3 ∙ sym (append-nil (ended l.0)))
-line_is_text d text t (Stopped NoMemory) written h l = absurd l
-line_is_text d text t (Stopped ReadFailed) written h l = absurd l
-line_is_text d text t BadWords written h l = absurd l
-line_is_text d text t FileRefused written h l = absurd l
-line_is_text d text t Broken written h l = absurd l
-line_is_text d text t TermRefused written h l = absurd l
+line_is_text budget d text t (Stopped NoMemory) written h l = absurd l
+line_is_text budget d text t (Stopped ReadFailed) written h l = absurd l
+line_is_text budget d text t BadWords written h l = absurd l
+line_is_text budget d text t (FileRefused fault) written h l = absurd l
+line_is_text budget d text t (Broken breaks rules) written h l = absurd l
+line_is_text budget d text t (TermRefused fault) written h l = absurd l

@@ -1,76 +1,67 @@
 -- What stays so while atoms and texts join a table.
-use Rattle.std.proofs.Common.{ℕ, ◌+◌, List, [], ◌∷◌, refl, sym, subst}
-use Rattle.eq_base.specs.Tree.{Tree, Forest, node, empty, grow, count}
-use Rattle.eq_base.specs.Pattern.{PatternCell}
+use Rattle.std.proofs.Common.{◌∙◌, sym, subst, List, length, ◌<◌, ◌+◌, ◌≡◌, ℕ, arith, ap, length-append}
+use Rattle.std.specs.Prelude.{All}
+use Rattle.eq_base.specs.Tree.{Tree, Forest, node, empty, grow, AllHeads, AllHeadsIn}
+use Rattle.eq_base.specs.Pattern.{PatternCell, fixed, variable, restricted}
 use Rattle.eq_base.specs.declared.head.Head.{Head}
+use Rattle.eq_base.specs.declared.head.Head.TheVariants.{Symbol, Numeral, Atom, Text}
+use Rattle.eq_base.specs.declared.rules.Right.{Right}
+use Rattle.eq_base.specs.declared.rules.Right.TheVariants as rights
 use Rattle.eq_base.specs.declared.rules.Equation.{Equation}
-use Rattle.term_lex.specs.Lexemes.{Lexeme}
-use Rattle.symbol_table.specs.Table.{Table, Keeps}
-use Rattle.symbol_table.proofs.Keeping.{keeps_trans}
-use Rattle.standmath.specs.Meaning.{outline, MeansCell, MeansTree, MeanTrees}
-use Rattle.standmath.proofs.Keeping.{still_mean}
-use Rattle.orthogonal_laws.specs.Plain.{ArePlain}
-use Rattle.ei_program.specs.PlainGrammar.{Sides}
-use Rattle.ei_program.specs.PlainFile.{MeansEquation, MeanEquations, IsPlainFile}
+use Rattle.eq_base.proofs.Heads.{CellHas}
+use Rattle.symbol_table.specs.Table.{Table, IsFront, Keeps}
+use Rattle.symbol_table.proofs.Keeping.{keeps_trans, declared_as}
+use Rattle.standmath.specs.Printing.{HasText}
+use Rattle.orthogonal_laws.proofs.Heads.{RightHas}
+use Rattle.sequentiality.specs.Regular.{AreRegular}
 use Rattle.ei_program.specs.Definitions.{Definitions, Grows, IsAccepted}
 
-module _ (old new : Table) (keeps : Keeps old new) (variables : List (List ℕ)) where
-  -- a lexeme, as a list of one
-  still_means_cell : (x : Lexeme) (args : ℕ) (c : PatternCell Head) → MeansCell old variables x args c → MeansCell new variables x args c
-  still_means_cell x args c means = (still_mean old new keeps variables ((x, args) ∷ []) ((c, args) ∷ []) (means, refl, tt)).0
+-- an element keeps its number
+within_front : (old new : List (List ℕ)) (n : ℕ) → IsFront old new → n < length old → n < length new
+within_front old new n (more, is) lt = let longer : length new ≡ length old + length more = ap length is ∙ length-append old more in omega (arith, lt, longer)
 
-  -- what means a pattern means it still
+-- a head that has a text has it still
+module _ (old new : Table) (keeps : Keeps old new) where
+  still_has_text : (h : Head) → HasText old h → HasText new h
+  still_has_text (Symbol n) (name, arity, is) = (name, arity, declared_as old new (sym keeps.declared) (sym keeps.included) name n arity is)
+  still_has_text (Numeral i) has = tt
+  still_has_text (Atom n) has = within_front old.atoms new.atoms n keeps.atoms has
+  still_has_text (Text n) has = within_front old.texts new.texts n keeps.texts has
+
+  still_cell : (c : PatternCell Head) → CellHas (HasText old) c → CellHas (HasText new) c
+  still_cell (fixed h) has = still_has_text h has
+  still_cell (variable x) has = tt
+  still_cell (restricted x class) has = tt
+
   mutual
-    pub still_means_tree : (t : Tree Lexeme) (p : Tree (PatternCell Head)) → MeansTree old variables t p → MeansTree new variables t p
-    still_means_tree (node x ts) (node c ps) (here, others) = (still_means_cell x (count ts) c here, still_mean_trees ts ps others)
+    still_heads : (p : Tree (PatternCell Head)) → AllHeads (CellHas (HasText old)) p → AllHeads (CellHas (HasText new)) p
+    still_heads (node c ps) (here, others) = (still_cell c here, all_still_heads ps others)
 
-    still_mean_trees : (ts : Forest Lexeme) (ps : Forest (PatternCell Head)) → MeanTrees old variables ts ps → MeanTrees new variables ts ps
-    still_mean_trees empty empty means = tt
-    still_mean_trees empty (grow p ps) means = absurd means
-    still_mean_trees (grow t ts) empty means = absurd means
-    still_mean_trees (grow t ts) (grow p ps) (first, others) = (still_means_tree t p first, still_mean_trees ts ps others)
+    all_still_heads : (ps : Forest (PatternCell Head)) → AllHeadsIn (CellHas (HasText old)) ps → AllHeadsIn (CellHas (HasText new)) ps
+    all_still_heads empty all = tt
+    all_still_heads (grow p ps) (first, others) = (still_heads p first, all_still_heads ps others)
 
-  pub still_means_equation : (number : ℕ) (s : Sides) (e : Equation) → MeansEquation old variables number s e → MeansEquation new variables number s e
-  still_means_equation number s e m = record {
-    left = still_means_tree (outline s.left) e.left m.left;
-    application = m.application;
-    left_fits = m.left_fits;
-    right_side = m.right_side;
-    tree = m.tree;
-    right = still_means_tree (outline s.right) m.right_side m.right;
-    right_fits = m.right_fits;
-    origin = m.origin;
-  }
+  still_right : (right : Right) → RightHas (HasText old) right → RightHas (HasText new) right
+  still_right (rights.Tree p) has = still_heads p has
+  still_right (rights.Schema op) has = tt
 
-  still_mean_equations : (number : ℕ) (ss : List Sides) (es : List Equation) → MeanEquations old variables number ss es → MeanEquations new variables number ss es
-  still_mean_equations number [] [] means = tt
-  still_mean_equations number [] (e ∷ es) means = absurd means
-  still_mean_equations number (s ∷ ss) [] means = absurd means
-  still_mean_equations number (s ∷ ss) (e ∷ es) (first, others) = (still_means_equation number s e first, still_mean_equations (number + 1) ss es others)
+  -- right sides have texts still
+  pub still_rights : (es : List Equation) → All (λ e. RightHas (HasText old) e.right) es → All (λ e. RightHas (HasText new) e.right) es
+  still_rights es all k e lt = still_right _ (all k e lt)
 
-  -- a file that says equations says them still
-  still_plain_file : (text : List ℕ) (equations : List Equation) → IsPlainFile text old variables equations → IsPlainFile text new variables equations
-  still_plain_file text equations f = record {
-    short = f.short;
-    file = f.file;
-    lexemes = f.lexemes;
-    end = f.end;
-    scanned = f.scanned;
-    spelled = f.spelled;
-    declared = f.declared;
-    declares = f.declares;
-    adds = f.adds;
-    keeps = keeps_trans f.declared old new f.keeps keeps;
-    means = still_mean_equations 1 f.file.equations equations f.means;
-    few = f.few;
-  }
+grows_trans : (one two three : Definitions) → Grows one two → Grows two three → Grows one three
+grows_trans one two three g h = record {
+  table = keeps_trans one.table two.table three.table g.table h.table;
+  variables = h.variables ∙ g.variables;
+  equations = h.equations ∙ g.equations;
+}
 
 -- definitions that were accepted are so still
 pub still_accepted : (old new : Definitions) → Grows old new → IsAccepted old → IsAccepted new
 still_accepted old new grows accepted = record {
   file = accepted.file;
-  defines = subst (λ (vs : List (List ℕ)). IsPlainFile accepted.file new.table vs new.equations) (sym grows.variables)
-      (subst (λ (es : List Equation). IsPlainFile accepted.file new.table old.variables es) (sym grows.equations)
-      (still_plain_file old.table new.table grows.table old.variables accepted.file old.equations accepted.defines));
-  plain = subst ArePlain (sym grows.equations) accepted.plain;
+  origin = accepted.origin;
+  defines = accepted.defines;
+  grows = grows_trans accepted.origin old new accepted.grows grows;
+  regular = subst AreRegular (sym grows.equations) accepted.regular;
 }

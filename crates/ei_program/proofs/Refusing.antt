@@ -2,38 +2,65 @@
 use Rattle.std.proofs.Common.{◌≡◌, ℕ, List, [], refl, inl, inr, Err}
 use Rattle.std.specs.declared.option.Option.{Option}
 use Rattle.std.specs.declared.option.Option.TheVariants.{Some}
+use Rattle.sequentiality.specs.Regular.{AreRegular}
+use Rattle.ei_program.specs.declared.words.Task.{Task}
+use Rattle.ei_program.specs.declared.words.Task.TheVariants.{Answer, Check}
 use Rattle.ei_program.specs.declared.stop.Stop.TheVariants.{NoMemory, ReadFailed, WriteFailed}
 use Rattle.ei_program.specs.declared.outcome.Outcome.{Outcome}
 use Rattle.ei_program.specs.declared.outcome.Outcome.TheVariants.{Answered, Questions, BadWords, FileRefused, Broken, TermRefused, Stopped}
-use Rattle.ei_program.specs.Words.{NamesFile}
+use Rattle.ei_program.specs.Words.{Asks}
 use Rattle.ei_program.specs.Loading.{IsLoaded}
-use Rattle.orthogonal_laws.specs.Plain.{ArePlain}
 use Rattle.ei_program.specs.Definitions.{Definitions, Defines, Grows}
-use Rattle.ei_program.specs.Run.{Given, HasDefinitions, Leaves, InputLeft}
+use Rattle.ei_program.specs.Run.{Given, Accepts, AnswersTask, ChecksTask, Leaves, InputLeft, IsChecked}
 
--- nothing was taken of the input, and nothing written
-pub not_accepted : (given : Given) (name : List ℕ) (left : Option (List ℕ)) (outcome : Outcome) → NamesFile given.words name → left ≡ Some given.input
-    → IsLoaded (given.named name) (Err outcome) → Leaves given left outcome []
-not_accepted given name left FileRefused names is l = ((l.0, record { name = name; named = names; found = l.1 }), (is, refl))
-not_accepted given name left Broken names is l = ((l.1, record { bytes = l.0; file = record { name = name; named = names; found = l.2 }; defines = l.3 }, l.4), (is, refl))
-not_accepted given name left (Stopped NoMemory) names is l = inr (tt, (is, refl))
-not_accepted given name left (Stopped ReadFailed) names is l = inr (tt, (is, refl))
-not_accepted given name left (Stopped WriteFailed) names is l = absurd l
-not_accepted given name left Answered names is l = absurd l
-not_accepted given name left Questions names is l = absurd l
-not_accepted given name left BadWords names is l = absurd l
-not_accepted given name left TermRefused names is l = absurd l
+-- the file is there, gives these definitions, and they break no restriction
+abbrev pub Loads : Option (List ℕ) → Definitions → Type 0
+Loads found d = (file : List ℕ) × (found ≡ Some file) × Defines file d × AreRegular d.equations
 
-has_definitions : (given : Given) (name : List ℕ) (d : Definitions) → NamesFile given.words name → (file : List ℕ) × (given.named name ≡ Some file) × Defines file d × ArePlain d.equations → HasDefinitions given d
-has_definitions given name d names f = record { bytes = f.0; file = record { name = name; named = names; found = f.1 }; defines = f.2 }
+module _ (given : Given) (task : Task) (name : List ℕ) (asked : Asks given.words task name) where
+  -- nothing was taken of the input, and nothing written
+  pub not_accepted : (left : Option (List ℕ)) (outcome : Outcome) → left ≡ Some given.input → IsLoaded (given.named name) (Err outcome) → Leaves given left outcome []
+  not_accepted left (FileRefused fault) is (file, found, why) = ((task, file, record { name = name; asked = asked; found = found }, why), (is, refl))
+  not_accepted left (Broken breaks rules) is (file, d, found, defines, broken) =
+      ((task, d, record { bytes = file; file = record { name = name; asked = asked; found = found }; defines = defines }, broken), (is, refl))
+  not_accepted left (Stopped NoMemory) is l = inr (inr (tt, (is, refl)))
+  not_accepted left (Stopped ReadFailed) is l = inr (inr (tt, (is, refl)))
+  not_accepted left (Stopped WriteFailed) is l = absurd l
+  not_accepted left Answered is l = absurd l
+  not_accepted left Questions is l = absurd l
+  not_accepted left BadWords is l = absurd l
+  not_accepted left (TermRefused fault) is l = absurd l
+
+  accepts : (d : Definitions) → Loads (given.named name) d → Accepts given task d
+  accepts d (file, found, defines, regular) = record {
+    definitions = record { bytes = file; file = record { name = name; asked = asked; found = found }; defines = defines };
+    regular = regular;
+  }
 
 -- the file is accepted, and the terms of the input were answered
-pub accepted : (given : Given) (name : List ℕ) (d e : Definitions) (left : Option (List ℕ)) (outcome : Outcome) (written : List ℕ) → NamesFile given.words name
-    → (file : List ℕ) × (given.named name ≡ Some file) × Defines file d × ArePlain d.equations → Grows d e → InputLeft e given.input left outcome written → Leaves given left outcome written
-accepted given name d e left Answered written names f grows t = inl (d, e, has_definitions given name d names f, f.3, grows, t)
-accepted given name d e left Questions written names f grows t = inl (d, e, has_definitions given name d names f, f.3, grows, t)
-accepted given name d e left TermRefused written names f grows t = inl (d, e, has_definitions given name d names f, f.3, grows, t)
-accepted given name d e left (Stopped stop) written names f grows t = inl (d, e, has_definitions given name d names f, f.3, grows, t)
-accepted given name d e left BadWords written names f grows t = absurd t.answered
-accepted given name d e left FileRefused written names f grows t = absurd t.answered
-accepted given name d e left Broken written names f grows t = absurd t.answered
+module _ (given : Given) (budget : ℕ) (name : List ℕ) (asked : Asks given.words (Answer budget) name) (d e : Definitions) (loads : Loads (given.named name) d) (grows : Grows d e) (left : Option (List ℕ)) where
+  answers_task : (outcome : Outcome) (written : List ℕ) → InputLeft budget e given.input left outcome written → AnswersTask given left outcome written
+  answers_task outcome written t = record { definitions = d; grown = e; budget = budget; accepts = accepts given (Answer budget) name asked d loads; grows = grows; answered = t }
+
+  pub answered : (outcome : Outcome) (written : List ℕ) → InputLeft budget e given.input left outcome written → Leaves given left outcome written
+  answered Answered written t = inl (answers_task Answered written t)
+  answered Questions written t = inl (answers_task Questions written t)
+  answered (TermRefused fault) written t = inl (answers_task (TermRefused fault) written t)
+  answered (Stopped stop) written t = inl (answers_task (Stopped stop) written t)
+  answered BadWords written t = absurd t.answered
+  answered (FileRefused fault) written t = absurd t.answered
+  answered (Broken breaks rules) written t = absurd t.answered
+
+-- the file is accepted, and that was told
+module _ (given : Given) (name : List ℕ) (asked : Asks given.words Check name) (d : Definitions) (loads : Loads (given.named name) d) (left : Option (List ℕ)) (untouched : left ≡ Some given.input) where
+  checks_task : (outcome : Outcome) (written : List ℕ) → IsChecked d outcome written → ChecksTask given left outcome written
+  checks_task outcome written t = record { definitions = d; accepts = accepts given Check name asked d loads; untouched = untouched; told = t }
+
+  pub checked : (outcome : Outcome) (written : List ℕ) → IsChecked d outcome written → Leaves given left outcome written
+  checked Answered written t = inr (inl (checks_task Answered written t))
+  checked (Stopped stop) written t = inr (inl (checks_task (Stopped stop) written t))
+  checked Questions written t = absurd t
+  checked (TermRefused fault) written t = absurd t
+  checked BadWords written t = absurd t
+  checked (FileRefused fault) written t = absurd t
+  checked (Broken breaks rules) written t = absurd t

@@ -10,21 +10,22 @@ use Rattle.ei_program.specs.declared.outcome.Outcome.TheVariants.{Answered, Ques
 use Rattle.ei_program.specs.Definitions.{Definitions}
 use Rattle.ei_program.specs.Lines.{IsNormalForm, IsSpent, IsLine, ended}
 
--- the line of its kind
-abbrev pub IsLineBy : Bool → Definitions → Tree Head → List ℕ → Type 0
-IsLineBy true d t line = IsNormalForm d t line
-IsLineBy false d t line = IsSpent d t line
+module _ (budget : ℕ) where
+  -- the line of its kind
+  abbrev pub IsLineBy : Bool → Definitions → Tree Head → List ℕ → Type 0
+  IsLineBy true d t line = IsNormalForm budget d t line
+  IsLineBy false d t line = IsSpent budget d t line
 
--- the line answers the term
-abbrev pub IsLineOf : Definitions → Tree Head → Line → Type 0
-IsLineOf d t l = (line : List ℕ) × IsLineBy l.is_normal d t line × (l.text.items ≡ ended line)
+  -- the line answers the term
+  abbrev pub IsLineOf : Definitions → Tree Head → Line → Type 0
+  IsLineOf d t l = (line : List ℕ) × IsLineBy l.is_normal d t line × (l.text.items ≡ ended line)
 
--- what was written of the line, by the outcome
-abbrev pub LineLeft : Definitions → Tree Head → Outcome → List ℕ → Type 0
-LineLeft d t Answered written = (line : List ℕ) × IsNormalForm d t line × (written ≡ ended line)
-LineLeft d t Questions written = (line : List ℕ) × IsSpent d t line × (written ≡ ended line)
-LineLeft d t (Stopped WriteFailed) written = (line : List ℕ) × (back : List ℕ) × IsLine d t line × (written ++ back ≡ ended line)
-LineLeft d t outcome written = ⊥
+  -- what was written of the line, by the outcome
+  abbrev pub LineLeft : Definitions → Tree Head → Outcome → List ℕ → Type 0
+  LineLeft d t Answered written = (line : List ℕ) × IsNormalForm budget d t line × (written ≡ ended line)
+  LineLeft d t Questions written = (line : List ℕ) × IsSpent budget d t line × (written ≡ ended line)
+  LineLeft d t (Stopped WriteFailed) written = (line : List ℕ) × (back : List ℕ) × IsLine budget d t line × (written ++ back ≡ ended line)
+  LineLeft d t outcome written = ⊥
 
 -- the fault count of what is written rose where a write failed, and else it is as before; nothing is read, and the words are not looked at
 pub record IsWriteOutcome (before now : ℕ) (outcome : Outcome) : Type 0 where

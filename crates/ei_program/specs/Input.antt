@@ -1,18 +1,27 @@
 -- The terms of an input.
-use Rattle.std.specs.Prelude.{◌≡◌, ◌⊎◌, ℕ, ◌≤◌, List, [], ◌∷◌, length, Ok}
+use Rattle.std.specs.Prelude.{◌≡◌, ◌⊎◌, ℕ, ◌+◌, ◌<◌, ◌≤◌, ◌^◌, List, [], ◌∷◌, length, drop}
 use Rattle.eq_base.specs.Tree.{Tree}
 use Rattle.eq_base.specs.declared.head.Head.{Head}
-use Rattle.term_lex.specs.declared.token.Token.{Token}
-use Rattle.term_lex.specs.declared.token.TokenKind.TheVariants.{End}
-use Rattle.term_lex.specs.Tokens.{FirstToken}
-use Rattle.symbol_table.specs.Table.{Table}
+use Rattle.term_lex.specs.Gaps.{IsGap}
 use Rattle.term_lex.specs.declared.fault.Fault.{Fault}
+use Rattle.term_lex.specs.declared.fault.FaultKind.TheVariants.{NotYet, TermLong}
+use Rattle.symbol_table.specs.Table.{Table}
 use Rattle.standmath.specs.Reading.{ReadsTerm}
 use Rattle.standmath.specs.Refusing.{RefusesTerm}
 
+-- the next byte that is neither blank nor in a comment stands at `byte`, which is the text's length where there is none
+pub record IsNextByte (text : List ℕ) (place byte : ℕ) : Type 0 where
+  pub gap : ℕ
+  pub skipped : IsGap (drop place text) gap
+  pub behind : byte ≡ place + gap
+
 -- only blanks and comments stand in the text from the place on
 abbrev pub NothingLeft : List ℕ → ℕ → Type 0
-NothingLeft text place = (t : Token) × FirstToken text place (Ok t) × (t.kind ≡ End)
+NothingLeft text place = IsNextByte text place (length text)
+
+-- something else stands there first at the byte
+abbrev pub StandsNext : List ℕ → ℕ → ℕ → Type 0
+StandsNext text place byte = IsNextByte text place byte × (byte < length text)
 
 -- the terms, each with its dot, stand one after another between two places of the text
 abbrev pub Terms : Table → List ℕ → ℕ → List (Tree Head) → ℕ → Type 0
@@ -27,13 +36,20 @@ pub record Holds (table : Table) (text : List ℕ) (terms : List (Tree Head)) : 
   pub few : length terms ≤ 1
 
 -- other bytes follow the first term and its dot
-pub record MoreFollows (table : Table) (text : List ℕ) : Type 0 where
+pub record MoreFollows (table : Table) (text : List ℕ) (fault : Fault) : Type 0 where
   pub term : Tree Head
   pub end : ℕ
   pub reads : ReadsTerm table text 0 term end
-  pub more : NothingLeft text end → ⊥
+  pub more : StandsNext text end fault.byte
+  pub kind : fault.kind ≡ NotYet
 
 -- the text holds something, and that begins with no term and its dot, or goes on behind them
-pub record IsRefused (table : Table) (text : List ℕ) : Type 0 where
-  pub something : NothingLeft text 0 → ⊥
-  pub why : ((fault : Fault) × RefusesTerm table text 0 fault) ⊎ MoreFollows table text
+pub record IsRefused (table : Table) (text : List ℕ) (fault : Fault) : Type 0 where
+  pub something : ¬ NothingLeft text 0
+  pub why : RefusesTerm table text 0 fault ⊎ MoreFollows table text fault
+
+-- an input is too long, or is refused
+abbrev pub RefusesInput : Table → List ℕ → Fault → Type 0
+RefusesInput table input fault =
+    ((2 ^ 24 < length input) × (fault ≡ record { kind = TermLong; byte = 0 }))
+    ⊎ ((length input ≤ 2 ^ 24) × IsRefused table input fault)

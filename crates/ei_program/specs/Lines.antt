@@ -1,32 +1,34 @@
 -- The lines that answer terms.
-use Rattle.std.specs.Prelude.{◌≡◌, ◌⊎◌, ℕ, List, [], ◌∷◌, ◌++◌, flat_map, codes, decimal}
+use Rattle.std.specs.Prelude.{◌≡◌, ◌⊎◌, ℕ, ◌<◌, ◌≤◌, List, [], ◌∷◌, ◌++◌, flat_map, length, codes, decimal}
 use Rattle.eq_base.specs.Tree.{Tree}
-use Rattle.eq_base.specs.Rewriting.{Derivation, IsDerivable, IsNormal}
+use Rattle.eq_base.specs.Rewriting.{IsDerivable, IsNormal}
 use Rattle.eq_base.specs.declared.head.Head.{Head}
 use Rattle.standmath.specs.Printing.{print}
+use Rattle.orthogonal_laws.specs.Strategy.{PlainRun, HasLength}
 use Rattle.ei_program.specs.Definitions.{Definitions, system}
 
--- the most replacements that one term is given
-abbrev pub budget : ℕ
-budget = 1000000
-
--- the line is the print of a normal term that is derivable from the term
-pub record IsNormalForm (d : Definitions) (t : Tree Head) (line : List ℕ) : Type 0 where
+-- the line is the print of a normal term that is derivable from the term, and the only one; its plain run reaches it within the budget
+pub record IsNormalForm (budget : ℕ) (d : Definitions) (t : Tree Head) (line : List ℕ) : Type 0 where
   pub form : Tree Head
   pub derivable : IsDerivable (system d) t form
   pub normal : IsNormal (system d) form
+  pub only : (other : Tree Head) → IsDerivable (system d) t other → IsNormal (system d) other → other ≡ form
+  pub steps : ℕ
+  pub length : HasLength (system d) t steps form
+  pub within : steps ≤ budget
   pub printed : line ≡ print d.table form
 
--- the line says that the whole budget was used, and a redex is left
-pub record IsSpent (d : Definitions) (t : Tree Head) (line : List ℕ) : Type 0 where
+-- the line says that the whole budget was used, and a redex is left; where some derivation ends in a normal form, the plain run ends in it, and is longer than the budget
+pub record IsSpent (budget : ℕ) (d : Definitions) (t : Tree Head) (line : List ℕ) : Type 0 where
   pub last : Tree Head
-  pub derived : Derivation (system d) t budget last
+  pub run : PlainRun (system d) t budget last
   pub unfinished : IsNormal (system d) last → ⊥
+  pub longer : (form : Tree Head) → IsDerivable (system d) t form → IsNormal (system d) form → (steps : ℕ) × HasLength (system d) t steps form × (budget < steps)
   pub written : line ≡ codes "? spent " ++ decimal budget
 
 -- the line answers the term
-abbrev pub IsLine : Definitions → Tree Head → List ℕ → Type 0
-IsLine d t line = IsNormalForm d t line ⊎ IsSpent d t line
+abbrev pub IsLine : ℕ → Definitions → Tree Head → List ℕ → Type 0
+IsLine budget d t line = IsNormalForm budget d t line ⊎ IsSpent budget d t line
 
 -- one line for each term, in order
 abbrev pub AreLines : (Tree Head → List ℕ → Type 0) → List (Tree Head) → List (List ℕ) → Type 0
@@ -48,3 +50,7 @@ ended line = line ++ 10 ∷ []
 -- the bytes of lines
 abbrev pub bytes_of : List (List ℕ) → List ℕ
 bytes_of lines = flat_map ended lines
+
+-- the line of a file that is accepted: how many equations it gives
+abbrev pub accepted_line : Definitions → List ℕ
+accepted_line d = codes "accepted " ++ decimal (length d.equations)

@@ -1,30 +1,50 @@
 -- What is known when a definitions file was loaded.
-use Rattle.std.specs.Prelude.{◌≡◌, ◌≢◌, ℕ, ◌≤◌, List, Result, Ok, Err}
+use Rattle.std.specs.Prelude.{◌≡◌, ◌≢◌, ℕ, ◌≤◌, ◌<◌, ◌^◌, List, length, Result, Ok, Err}
 use Rattle.std.specs.declared.option.Option.{Option}
 use Rattle.std.specs.declared.option.Option.TheVariants.{Some}
-use Rattle.eq_ports.specs.Causes.{Rose}
-use Rattle.orthogonal_laws.specs.Plain.{ArePlain}
 use Rattle.std.specs.Prelude.{Vec}
 use Rattle.std.specs.declared.alloc.Global.{Global}
+use Rattle.eq_ports.specs.Causes.{Rose}
+use Rattle.term_lex.specs.declared.fault.FaultKind.TheVariants.{FileLong, NotYet}
+use Rattle.def_file.specs.declared.definitions.Definitions.{Definitions as FileDefinitions}
+use Rattle.def_file.specs.declared.error.FileError.{FileError}
+use Rattle.def_file.specs.declared.error.FileError.TheVariants.{Refused}
+use Rattle.sequentiality.specs.Regular.{AreRegular, IsRefused as IsBroken}
+use Rattle.sequentiality.specs.declared.regular.AdmitError.TheVariants.{Broken as BrokenRules}
 use Rattle.ei_program.specs.declared.stop.Stop.TheVariants.{NoMemory, ReadFailed, WriteFailed}
 use Rattle.ei_program.specs.declared.outcome.Outcome.{Outcome}
 use Rattle.ei_program.specs.declared.outcome.Outcome.TheVariants.{BadWords, FileRefused, Broken, Stopped}
-use Rattle.ei_program.specs.declared.plain_file.Plain.{Plain}
-use Rattle.ei_program.specs.Definitions.{Definitions, Defines, definitions_of}
+use Rattle.ei_program.specs.declared.definitions.Equations.{Equations}
+use Rattle.ei_program.specs.declared.loading.Loaded.{Loaded}
+use Rattle.ei_program.specs.Definitions.{Definitions, equations_of, AreSmall, as_equations, Defines, RefusesFile, definitions_in, definitions_of}
 
 -- these are the bytes of the file; or it is not there, or not taken whole
 abbrev pub IsFileTaken : Option (List ℕ) → Result (Vec ℕ Global) Outcome → Type 0
 IsFileTaken found (Ok bytes) = found ≡ Some bytes.items
-IsFileTaken found (Err FileRefused) = (file : List ℕ) × (found ≡ Some file)
+IsFileTaken found (Err (FileRefused fault)) =
+    (file : List ℕ) × (found ≡ Some file) × (2 ^ 24 < length file) × (fault ≡ record { kind = FileLong; byte = 2 ^ 24 })
 IsFileTaken found (Err (Stopped NoMemory)) = Unit {0}
 IsFileTaken found (Err (Stopped ReadFailed)) = Unit {0}
 IsFileTaken found (Err outcome) = ⊥
 
--- the file defines plain equations; or it is not accepted, with this outcome
-abbrev pub IsLoaded : Option (List ℕ) → Result Plain Outcome → Type 0
-IsLoaded found (Ok plain) = (file : List ℕ) × (found ≡ Some file) × Defines file (definitions_of plain) × ArePlain plain.rules
-IsLoaded found (Err FileRefused) = (file : List ℕ) × (found ≡ Some file)
-IsLoaded found (Err Broken) = (file : List ℕ) × (d : Definitions) × (found ≡ Some file) × Defines file d × (ArePlain d.equations → ⊥)
+-- what a file says is taken as equations, which are not too large; or they are; or memory ran out
+abbrev pub AreGathered : FileDefinitions → Result Equations FileError → Type 0
+AreGathered read (Ok equations) = (definitions_in equations ≡ as_equations read) × AreSmall (equations_of read.items)
+AreGathered read (Err (Refused fault)) = (¬ AreSmall (equations_of read.items)) × (fault ≡ record { kind = NotYet; byte = 0 })
+AreGathered read (Err error) = Unit {0}
+
+-- the equations break no restriction and are as before; or they break these; or memory ran out
+abbrev pub IsAdmitted : Equations → Result Loaded Outcome → Type 0
+IsAdmitted equations (Ok loaded) = (definitions_of loaded ≡ definitions_in equations) × AreRegular equations.rules
+IsAdmitted equations (Err (Broken breaks rules)) = IsBroken equations.rules (BrokenRules breaks rules)
+IsAdmitted equations (Err (Stopped NoMemory)) = Unit {0}
+IsAdmitted equations (Err outcome) = ⊥
+
+-- the file gives equations that break no restriction; or it is not accepted, with this outcome
+abbrev pub IsLoaded : Option (List ℕ) → Result Loaded Outcome → Type 0
+IsLoaded found (Ok loaded) = (file : List ℕ) × (found ≡ Some file) × Defines file (definitions_of loaded) × AreRegular loaded.regular
+IsLoaded found (Err (FileRefused fault)) = (file : List ℕ) × (found ≡ Some file) × RefusesFile file fault
+IsLoaded found (Err (Broken breaks rules)) = (file : List ℕ) × (d : Definitions) × (found ≡ Some file) × Defines file d × IsBroken d.equations (BrokenRules breaks rules)
 IsLoaded found (Err (Stopped NoMemory)) = Unit {0}
 IsLoaded found (Err (Stopped ReadFailed)) = Unit {0}
 IsLoaded found (Err outcome) = ⊥

@@ -1,49 +1,49 @@
-// The terms of an input.
-ghost use Rattle.std.specs.Prelude.{◌≡◌, ◌≤◌, ◌↔◌, length, IfOk, IfErr, IsTrue};
+// The term of an input.
+ghost use Rattle.std.specs.Prelude.{◌≡◌, ◌≤◌, ◌+◌, length, IfOk, IfErr, IfSome, IfNone};
 ghost use Rattle.symbol_table.specs.Table.{Keeps};
 ghost use Rattle.standmath.specs.Answering.{IfRefused};
-ghost use Rattle.ei_program.specs.Input.{NothingLeft, IsRefused};
+ghost use Rattle.ei_program.specs.Input.{NothingLeft, StandsNext, IsRefused};
 ghost use Rattle.ei_program.specs.ReadInput.{IsInput};
 
 use eq_base::Flat;
 use standmath::{ReadError, read_term};
 use std::alloc::Global;
 use symbol_table::Symbols;
-use term_lex::{Fault, FaultKind, TokenKind, next_token};
+use term_lex::{Fault, FaultKind, gap_len};
 
-/// Whether only blanks and comments stand in the text from the place on.
-fn nothing_left(text: &[u8], place: usize) -> bool
+/// The first byte from the place on that is neither blank nor in a comment, if there is one.
+fn next_byte(text: &[u8], place: usize) -> Option<usize>
     requires { place ≤ length text.now }
-    ensures { IsTrue result ↔ NothingLeft text.now place }
+    ensures some { IfSome result (StandsNext text.now place) }
+    ensures none { IfNone result (NothingLeft text.now place) }
 {
-    match next_token(text, place) {
-        Ok(token) => token.kind == TokenKind::End,
-        Err(_) => false,
-    }
+    let byte = place + gap_len(&text[place..]);
+    if byte < text.len() { Some(byte) } else { None }
 }
 
 /// The term of an input that holds one at most, or `None` where it holds none. Linear in the text.
 ///
 /// # Errors
 ///
-/// The term's fault, or `NotYet` at the place behind the term's dot where more follows; out of memory.
+/// The term's fault, or `NotYet` at the first byte behind the term's dot that is neither blank nor in a comment; out of
+/// memory.
 pub fn read_input(
     alloc: Global,
     symbols: &mut Symbols,
     text: &[u8],
 ) -> Result<Option<Flat>, ReadError>
     ensures holds { IfOk result (IsInput symbols.new text.now) }
-    ensures refused { IfErr result (IfRefused (λ _. IsRefused symbols.new text.now)) }
+    ensures refused { IfErr result (IfRefused (IsRefused symbols.new text.now)) }
     ensures keeps { Keeps symbols.old symbols.new }
 {
-    if nothing_left(text, 0) {
+    let Some(_) = next_byte(text, 0) else {
         return Ok(None);
-    }
+    };
     let (term, end) = read_term(alloc, symbols, text, 0)?;
-    if !nothing_left(text, end) {
+    if let Some(byte) = next_byte(text, end) {
         return Err(ReadError::Refused(Fault {
             kind: FaultKind::NotYet,
-            byte: end,
+            byte,
         }));
     }
     Ok(Some(term))

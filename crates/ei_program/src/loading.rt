@@ -1,20 +1,35 @@
 // The definitions file: taken whole, read, and checked.
-ghost use Rattle.std.specs.Prelude.{◌≡◌, ◌≤◌, ◌^◌, ℕ, List, Option, IfOk, OnErr, IfSome, Some};
-ghost use Rattle.ei_program.specs.Definitions.{definitions_of, IsAccepted};
-ghost use Rattle.ei_program.specs.Loading.{IsFileTaken, IsLoaded, IsReadOutcome};
+ghost use Rattle.std.specs.Prelude.{◌≡◌, ℕ, List, Option, IfOk, IfErr, Some};
+ghost use Rattle.ei_program.specs.Definitions.{Defines, definitions_in, definitions_of, IsAccepted};
+ghost use Rattle.ei_program.specs.Outcomes.{CanBeTold};
+ghost use Rattle.ei_program.specs.Loading.{IsFileTaken, IsAdmitted, IsLoaded, IsReadOutcome};
 ghost use Rattle.ei_program.specs.Taking.{IsTaken, IsReadCount};
 
+use crate::definitions::{Equations, read_equations};
 use crate::outcome::Outcome;
-use crate::plain_file::{Plain, PlainError, read_plain};
 use crate::stop::Stop;
 use crate::taking::{Ending, Taken, take_up_to};
+use def_file::FileError;
 use eq_base::NoMemory;
 use eq_ports::{FileSource, Files};
-use orthogonal_laws::are_plain;
+use sequentiality::{AdmitError, Regular};
 use std::alloc::Global;
+use symbol_table::{Symbols, Variables};
+use term_lex::{Fault, FaultKind};
 
 /// The most bytes of a definitions file or an input: 2^24.
 pub const TEXT_BYTES: usize = 16_777_216;
+
+/// What a definitions file gives whose equations break no restriction.
+#[derive(Drop)]
+pub struct Loaded {
+    /// The symbols that it declares, with the atoms and strings that were read since.
+    pub symbols: Symbols,
+    /// The variables that it declares.
+    pub variables: Variables,
+    /// Its equations, in their order.
+    pub regular: Regular,
+}
 
 /// Takes the bytes of the chosen file.
 fn take_chosen<F: Files>(alloc: Global, files: &mut F) -> Result<Taken, NoMemory>
@@ -28,36 +43,54 @@ fn take_chosen<F: Files>(alloc: Global, files: &mut F) -> Result<Taken, NoMemory
 
 /// The bytes of a file, or the outcome of a run that cannot have them.
 fn take_file<F: Files>(alloc: Global, files: &mut F, name: &str) -> Result<Vec<u8>, Outcome>
+    ensures told { IfErr result CanBeTold }
     ensures taken { (named : List ℕ → Option (List ℕ)) → F.named files.old ≡ Some named → IsFileTaken (named name.now) result }
     ensures count { IsReadOutcome (F.faults files.old) (F.faults files.new) result }
 {
     if files.choose(name).is_err() {
         return Err(Outcome::Stopped(Stop::ReadFailed));
     }
-    match take_chosen(alloc, files) {
-        Ok(taken) => match taken.ending {
-            Ending::Whole => Ok(taken.bytes),
-            Ending::Long => Err(Outcome::FileRefused),
-            Ending::Failed => Err(Outcome::Stopped(Stop::ReadFailed)),
-        },
-        Err(_) => Err(Outcome::Stopped(Stop::NoMemory)),
+    let Ok(taken) = take_chosen(alloc, files) else {
+        return Err(Outcome::Stopped(Stop::NoMemory));
+    };
+    match taken.ending {
+        Ending::Whole => Ok(taken.bytes),
+        Ending::Long => Err(Outcome::FileRefused(Fault {
+            kind: FaultKind::FileLong,
+            byte: TEXT_BYTES,
+        })),
+        Ending::Failed => Err(Outcome::Stopped(Stop::ReadFailed)),
+    }
+}
+
+/// The equations, where they break no restriction.
+fn admit(alloc: Global, equations: Equations) -> Result<Loaded, Outcome>
+    requires { (file : List ℕ) × Defines file (definitions_in equations) }
+    ensures admitted { IsAdmitted equations result }
+    ensures told { IfErr result CanBeTold }
+{
+    match Regular::admit(alloc, equations.rules) {
+        Ok(regular) => Ok(Loaded {
+            symbols: equations.symbols,
+            variables: equations.variables,
+            regular,
+        }),
+        Err(AdmitError::Broken(breaks, rules)) => Err(Outcome::Broken(breaks, rules)),
+        Err(AdmitError::NoMemory) => Err(Outcome::Stopped(Stop::NoMemory)),
     }
 }
 
 /// What the named file defines, or the outcome of a run that does not accept it.
-pub fn load<F: Files>(alloc: Global, files: &mut F, name: &str) -> Result<Plain, Outcome>
+pub fn load<F: Files>(alloc: Global, files: &mut F, name: &str) -> Result<Loaded, Outcome>
     ensures loaded { (named : List ℕ → Option (List ℕ)) → F.named files.old ≡ Some named → IsLoaded (named name.now) result }
-    ensures accepted { IfOk result (λ plain. IsAccepted (definitions_of plain)) }
+    ensures accepted { IfOk result (λ loaded. IsAccepted (definitions_of loaded)) }
+    ensures told { IfErr result CanBeTold }
     ensures count { IsReadOutcome (F.faults files.old) (F.faults files.new) result }
 {
     let bytes = take_file(alloc, files, name)?;
-    let plain = match read_plain(alloc, &bytes) {
-        Ok(plain) => plain,
-        Err(PlainError::NotPlain) => return Err(Outcome::FileRefused),
-        Err(PlainError::NoMemory) => return Err(Outcome::Stopped(Stop::NoMemory)),
-    };
-    if !are_plain(&plain.rules) {
-        return Err(Outcome::Broken);
+    match read_equations(alloc, &bytes) {
+        Ok(equations) => admit(alloc, equations),
+        Err(FileError::Refused(fault)) => Err(Outcome::FileRefused(fault)),
+        Err(FileError::NoMemory) => Err(Outcome::Stopped(Stop::NoMemory)),
     }
-    Ok(plain)
 }

@@ -2,10 +2,12 @@
 #![tactic(auto)]
 
 mod answer;
+mod definitions;
 mod input;
 mod loading;
 mod outcome;
-mod plain_file;
+mod positions;
+mod restrictions;
 mod run;
 mod status;
 mod stop;

@@ -17,21 +17,74 @@ For all x, y:
   loop = loop.
 ";
 
+const DEMANDED_ARGUMENT: &str = "Symbols a: 0; b: 0; c: 0; f: 2; loop: 0.
+For all x:
+  f(x, a) = c;
+  b = a;
+  loop = loop.
+";
+
+const SHARING: &str = "Symbols d: 1; p: 2; w: 0; z: 0.
+For all x:
+  d(x) = p(x, x);
+  w = z.
+";
+
+const COMBINATORS: &str = "Symbols AP: 2; S: 0; K: 0; q: 0.
+For all x, y, z:
+  AP(AP(AP(S, x), y), z) = AP(AP(x, z), AP(y, z));
+  AP(AP(K, x), y) = x.
+";
+
+const INNER_OVERLAP: &str = "Symbols a: 0; b: 0; c: 0; f: 2; g: 2.
+For all x, y:
+  f(g(x, a), y) = x;
+  g(b, c) = b.
+";
+
+const BROKEN: &str = "Symbols if: 3; g: 2; first: 1; pred: 1; succ: 1; h: 1; k: 1; c: 0;
+  n0: 0; n1: 0.
+For all x, y:
+  if(x, y, y) = y;
+  g(n0, x) = n0;
+  g(x, n1) = n1;
+  first(pred(x)) = c;
+  pred(succ(x)) = x;
+  h(x) = k(y).
+";
+
+const FREE_VARIABLES: &str = "Symbols c: 0; p: 52.
+For all x:
+  c = p(
+    x, x, x, x, x, x, x, x, x, x, x, x, x,
+    x, x, x, x, x, x, x, x, x, x, x, x, x,
+    x, x, x, x, x, x, x, x, x, x, x, x, x,
+    x, x, x, x, x, x, x, x, x, x, x, x, x).
+";
+
 const EITHER: &str = "Symbols a: 0; b: 0; s: 1; f: 1; g: 1.
 For all x, y:
   f(x) = g(x) where x is either a or s(y) end or end where.
 ";
 
-/// What a run is given, the call of each port that fails (0 for none), and what comes of it.
+const TWICE: &str = "Symbols a: 0; a: 1. For all: a = a.";
+
+/// A port of a run.
+#[derive(Clone, Copy, PartialEq, Eq)]
+enum Port {
+    Files,
+    Input,
+    Output,
+    Errors,
+}
+
+/// What a run is given, the port whose call of the number fails (0 for none), and what comes of it.
 #[derive(Clone, Copy)]
 struct Row<'a> {
-    word: &'a str,
+    words: &'a [&'a str],
     file: &'a str,
     input: &'a str,
-    files_fail: u64,
-    input_fails: u64,
-    output_fails: u64,
-    errors_fail: u64,
+    fails: (Port, u64),
     status: u8,
     output: &'a str,
     errors: &'a str,
@@ -39,17 +92,25 @@ struct Row<'a> {
 
 /// Peano's addition of two and one.
 const ADDITION: Row<'static> = Row {
-    word: "E",
+    words: &["E"],
     file: PEANO,
     input: "plus(s(s(z)), s(z)).\n",
-    files_fail: 0,
-    input_fails: 0,
-    output_fails: 0,
-    errors_fail: 0,
+    fails: (Port::Files, 0),
     status: 0,
     output: "s(s(s(z)))\n",
     errors: "",
 };
+
+impl Row<'_> {
+    /// The number of the port's call that fails, or 0.
+    fn failing(&self, port: Port) -> u64 {
+        if self.fails.0 == port {
+            self.fails.1
+        } else {
+            0
+        }
+    }
+}
 
 fn files(alloc: Global, file: &str, fails: u64) -> Result<MemoryFiles, AllocError> {
     let name = String::from_str(alloc, "E")?;
@@ -60,25 +121,28 @@ fn files(alloc: Global, file: &str, fails: u64) -> Result<MemoryFiles, AllocErro
 
 fn source(alloc: Global, text: &str, fails: u64) -> Result<MemorySource, AllocError> {
     let bytes = text.as_bytes().to_vec(alloc)?;
-    Ok(MemorySource::new(bytes, 4096, vec![in alloc; fails]?))
+    Ok(MemorySource::new(bytes, 12, vec![in alloc; fails]?))
 }
 
 fn sink(alloc: Global, fails: u64) -> Result<MemorySink, AllocError> {
-    let room = Vec::with_capacity(alloc, 100)?;
+    let room = Vec::with_capacity(alloc, 4096)?;
     Ok(MemorySink::new(room, 7, vec![in alloc; fails]?))
 }
 
-fn words(alloc: Global, word: &str) -> Result<Vec<String>, AllocError> {
-    let word = String::from_str(alloc, word)?;
-    Ok(vec![in alloc; word]?)
+fn words(alloc: Global, list: &[&str]) -> Result<Vec<String>, AllocError> {
+    let mut words = Vec::new(alloc);
+    for word in list {
+        words.push(String::from_str(alloc, word)?)?;
+    }
+    Ok(words)
 }
 
 fn expect(rt: &impl Abort, alloc: Global, row: &Row<'_>) -> Result<(), AllocError> {
-    let mut files = files(alloc, row.file, row.files_fail)?;
-    let mut input = source(alloc, row.input, row.input_fails)?;
-    let mut output = sink(alloc, row.output_fails)?;
-    let mut errors = sink(alloc, row.errors_fail)?;
-    let words = words(alloc, row.word)?;
+    let mut files = files(alloc, row.file, row.failing(Port::Files))?;
+    let mut input = source(alloc, row.input, row.failing(Port::Input))?;
+    let mut output = sink(alloc, row.failing(Port::Output))?;
+    let mut errors = sink(alloc, row.failing(Port::Errors))?;
+    let words = words(alloc, row.words)?;
     let status = ei(
         alloc,
         words,
@@ -87,141 +151,400 @@ fn expect(rt: &impl Abort, alloc: Global, row: &Row<'_>) -> Result<(), AllocErro
         &mut output,
         &mut errors,
     );
-    assert_eq!(rt; status.number(), row.status, "at {}", row.input);
-    assert_eq!(rt; output.written(), row.output.as_bytes(), "at {}", row.input);
-    assert_eq!(rt; errors.written(), row.errors.as_bytes(), "at {}", row.input);
+    assert_eq!(rt;
+        status.number(),
+        row.status,
+        "at {} {}",
+        row.file,
+        row.input
+    );
+    assert_eq!(rt;
+        output.written(),
+        row.output.as_bytes(),
+        "at {} {}",
+        row.file,
+        row.input
+    );
+    assert_eq!(rt;
+        errors.written(),
+        row.errors.as_bytes(),
+        "at {} {}",
+        row.file,
+        row.input
+    );
     Ok(())
 }
 
 #[test]
-fn worked_rows(rt: HostRuntime) -> Result<(), Fail> {
-    let nothing = Row {
-        output: "",
-        ..ADDITION
-    };
-    for row in [
-        ADDITION,
-        Row {
-            input: "",
-            ..nothing
-        },
-        Row {
-            input: "% nothing",
-            ..nothing
-        },
-        Row {
-            file: LAZY,
-            input: "loop.",
-            status: 3,
-            output: "? spent 1000000\n",
-            ..ADDITION
-        },
-        Row {
-            file: LAZY,
-            input: "car(cons(a, loop)).",
-            output: "a\n",
-            ..ADDITION
-        },
-        Row {
-            file: EITHER,
-            status: 4,
-            errors: "ei: not yet\n",
-            ..nothing
-        },
-        Row {
-            file: "Symbols a: 0; f: 2. For all x, y: f(x, x) = a.",
-            status: 5,
-            ..nothing
-        },
-        Row {
-            file: "Symbols a: 0; f: 1. For all x, y: f(x) = y.",
-            status: 5,
-            ..nothing
-        },
-        Row {
-            input: "plus(z).",
-            status: 6,
-            ..nothing
-        },
-        Row {
-            input: "q.",
-            status: 6,
-            ..nothing
-        },
-        Row {
-            input: "plus(z, z)",
-            status: 6,
-            ..nothing
-        },
-        Row {
-            input: "z. z.",
-            status: 6,
-            ..nothing
-        },
-        Row {
-            word: "-E",
-            status: 2,
-            ..nothing
-        },
-        Row {
-            word: "none",
-            status: 7,
-            ..nothing
-        },
+fn answers(rt: HostRuntime) -> Result<(), Fail> {
+    for (file, input, status, output) in [
+        (PEANO, "plus(s(s(z)), s(z)).\n", 0, "s(s(s(z)))\n"),
+        (PEANO, "", 0, ""),
+        (PEANO, "% nothing", 0, ""),
+        (PEANO, " z % nothing\n. % more", 0, "z\n"),
+        (LAZY, "car(cons(a, loop)).", 0, "a\n"),
+        (LAZY, "loop.", 3, "? spent 1000000\n"),
+        (DEMANDED_ARGUMENT, "f(loop, b).", 0, "c\n"),
+        (DEMANDED_ARGUMENT, "f(a, loop).", 3, "? spent 1000000\n"),
+        (
+            SHARING,
+            "d(d(d(w))).",
+            0,
+            "p(p(p(z, z), p(z, z)), p(p(z, z), p(z, z)))\n",
+        ),
+        (COMBINATORS, "AP(AP(AP(S, K), K), q).", 0, "q\n"),
+        ("Symbols a: 0. For all: .", "a.", 0, "a\n"),
     ] {
+        let row = Row {
+            file,
+            input,
+            status,
+            output,
+            ..ADDITION
+        };
         expect(&rt, rt.alloc(), &row)?;
     }
     Ok(())
 }
 
 #[test]
-fn failing_ports(rt: HostRuntime) -> Result<(), Fail> {
-    let failed = Row {
-        status: 7,
+fn refused_terms(rt: HostRuntime) -> Result<(), Fail> {
+    for (input, errors) in [
+        ("plus(z, z)).", "ei: term refused: Expected at byte 10\n"),
+        ("plus(z, #).", "ei: term refused: BadByte at byte 8\n"),
+        ("plus(z", "ei: term refused: Unended at byte 6\n"),
+        ("plus(z, z)", "ei: term refused: Unended at byte 10\n"),
+        ("plus(z).", "ei: term refused: WrongArity at byte 0\n"),
+        ("q.", "ei: term refused: Unknown at byte 0\n"),
+        ("z. z.", "ei: term refused: NotYet at byte 3\n"),
+        (
+            "plus(z, z). plus(z",
+            "ei: term refused: NotYet at byte 12\n",
+        ),
+        ("z. \"ab", "ei: term refused: NotYet at byte 3\n"),
+    ] {
+        let row = Row {
+            input,
+            status: 6,
+            output: "",
+            errors,
+            ..ADDITION
+        };
+        expect(&rt, rt.alloc(), &row)?;
+    }
+    Ok(())
+}
+
+#[test]
+fn refused_files(rt: HostRuntime) -> Result<(), Fail> {
+    for (file, errors) in [
+        (TWICE, "ei: equations refused: Twice at byte 14\n"),
+        (
+            "Symbols h: 1; include integer_numerals. For all: h(170141183460469231731687303715884105728) = 0.",
+            "ei: equations refused: NumeralPast at byte 51\n",
+        ),
+        (
+            "Symbols h: 1; include integer_numerals. For all: h(-170141183460469231731687303715884105728) = 0.",
+            "ei: equations refused: NotYet at byte 14\n",
+        ),
+        (
+            "Symbols h: 1; include strings. For all: .",
+            "ei: equations refused: NotYet at byte 14\n",
+        ),
+        (
+            "Symbols f: 1; a: 0. For all x: f(x) = a where x is either a end or end where.",
+            "ei: equations refused: NotYet at byte 46\n",
+        ),
+        (EITHER, "ei: equations refused: NotYet at byte 72\n"),
+    ] {
+        let row = Row {
+            file,
+            status: 4,
+            output: "",
+            errors,
+            ..ADDITION
+        };
+        expect(&rt, rt.alloc(), &row)?;
+    }
+    Ok(())
+}
+
+#[test]
+fn broken_restrictions(rt: HostRuntime) -> Result<(), Fail> {
+    for (file, errors) in [
+        (
+            INNER_OVERLAP,
+            "ei: restrictions broken: 1\nRE5 equation 1 at 1 with equation 2\n",
+        ),
+        (
+            "Symbols or: 2; true: 0. For all x: or(true, x) = true; or(x, true) = true.",
+            "ei: restrictions broken: 1\nRE5 equation 1 at root with equation 2\n",
+        ),
+        (
+            BROKEN,
+            "ei: restrictions broken: 4
+RE1 equation 1 at 3
+RE2 equation 6 at 1
+RE3 equation 2 with equation 3
+RE4 equation 4 at 1 with equation 5
+",
+        ),
+        (
+            "Symbols f: 1. For all x: f(f(x)) = x.",
+            "ei: restrictions broken: 1\nRE4 equation 1 at 1 with equation 1\n",
+        ),
+    ] {
+        let row = Row {
+            file,
+            status: 5,
+            output: "",
+            errors,
+            ..ADDITION
+        };
+        expect(&rt, rt.alloc(), &row)?;
+    }
+    Ok(())
+}
+
+#[test]
+fn many_breaks(rt: HostRuntime) -> Result<(), Fail> {
+    let alloc = rt.alloc();
+    let mut errors = String::from_str(alloc, "ei: restrictions broken: 52\n")?;
+    for place in 1..51 {
+        let line = format!(in alloc; "RE2 equation 1 at {place}\n")?;
+        errors.push_str(&line)?;
+    }
+    errors.push_str("ei: 2 more\n")?;
+    let row = Row {
+        file: FREE_VARIABLES,
+        status: 5,
         output: "",
+        errors: &errors,
         ..ADDITION
     };
-    for row in [
-        Row {
-            files_fail: 1,
-            ..failed
-        },
-        Row {
-            files_fail: 2,
-            ..failed
-        },
-        Row {
-            files_fail: 3,
-            ..failed
-        },
-        Row {
-            input_fails: 1,
-            ..failed
-        },
-        Row {
-            input_fails: 2,
-            output: "s(s(s(z)))\n",
-            ..failed
-        },
-        Row {
-            output_fails: 1,
-            status: 8,
-            ..failed
-        },
-        Row {
-            output_fails: 2,
-            status: 8,
-            output: "s(s(s(z",
-            ..failed
-        },
-        Row {
-            file: EITHER,
-            errors_fail: 1,
-            status: 8,
-            ..failed
-        },
+    expect(&rt, alloc, &row)?;
+    Ok(())
+}
+
+#[test]
+fn budgets(rt: HostRuntime) -> Result<(), Fail> {
+    for (option, file, input, status, output) in [
+        (
+            "--replacements=2",
+            DEMANDED_ARGUMENT,
+            "f(loop, b).",
+            0,
+            "c\n",
+        ),
+        (
+            "--replacements=3",
+            DEMANDED_ARGUMENT,
+            "f(loop, b).",
+            0,
+            "c\n",
+        ),
+        (
+            "--replacements=1000",
+            DEMANDED_ARGUMENT,
+            "f(loop, b).",
+            0,
+            "c\n",
+        ),
+        (
+            "--replacements=3",
+            DEMANDED_ARGUMENT,
+            "loop.",
+            3,
+            "? spent 3\n",
+        ),
+        ("--replacements=0", DEMANDED_ARGUMENT, "a.", 0, "a\n"),
+        (
+            "--replacements=0",
+            DEMANDED_ARGUMENT,
+            "b.",
+            3,
+            "? spent 0\n",
+        ),
+        (
+            "--replacements=0015",
+            SHARING,
+            "d(d(d(w))).",
+            0,
+            "p(p(p(z, z), p(z, z)), p(p(z, z), p(z, z)))\n",
+        ),
+        (
+            "--replacements=14",
+            SHARING,
+            "d(d(d(w))).",
+            3,
+            "? spent 14\n",
+        ),
+        ("--replacements=1000000000000", PEANO, "z.", 0, "z\n"),
     ] {
+        let row = Row {
+            words: &[option, "E"],
+            file,
+            input,
+            status,
+            output,
+            ..ADDITION
+        };
         expect(&rt, rt.alloc(), &row)?;
+    }
+    Ok(())
+}
+
+#[test]
+fn command_lines(rt: HostRuntime) -> Result<(), Fail> {
+    let bad = "ei: bad command line\n";
+    for (words, status, output, errors) in [
+        (["--check", "E"].as_slice(), 0, "accepted 2\n", ""),
+        (["--check", "none"].as_slice(), 7, "", "ei: read failed\n"),
+        (["none"].as_slice(), 7, "", "ei: read failed\n"),
+        ([].as_slice(), 2, "", bad),
+        (["-E"].as_slice(), 2, "", bad),
+        (["--check"].as_slice(), 2, "", bad),
+        (["E", "E"].as_slice(), 2, "", bad),
+        (["E", "--check"].as_slice(), 2, "", bad),
+        (["--check", "-E"].as_slice(), 2, "", bad),
+        (["--replacements=1"].as_slice(), 2, "", bad),
+        (["--replacements=", "E"].as_slice(), 2, "", bad),
+        (["--replacements=+1", "E"].as_slice(), 2, "", bad),
+        (["--replacements=1000000000001", "E"].as_slice(), 2, "", bad),
+        (["--replacements=1", "--check", "E"].as_slice(), 2, "", bad),
+        (["--check", "E", "T"].as_slice(), 2, "", bad),
+        (["--check", "--check", "E"].as_slice(), 2, "", bad),
+    ] {
+        let row = Row {
+            words,
+            status,
+            output,
+            errors,
+            ..ADDITION
+        };
+        expect(&rt, rt.alloc(), &row)?;
+    }
+    Ok(())
+}
+
+#[test]
+fn checked_files(rt: HostRuntime) -> Result<(), Fail> {
+    for (file, status, output, errors) in [
+        (COMBINATORS, 0, "accepted 2\n", ""),
+        ("Symbols a: 0. For all: .", 0, "accepted 0\n", ""),
+        (TWICE, 4, "", "ei: equations refused: Twice at byte 14\n"),
+        (
+            INNER_OVERLAP,
+            5,
+            "",
+            "ei: restrictions broken: 1\nRE5 equation 1 at 1 with equation 2\n",
+        ),
+    ] {
+        let row = Row {
+            words: &["--check", "E"],
+            file,
+            input: "q.",
+            status,
+            output,
+            errors,
+            ..ADDITION
+        };
+        expect(&rt, rt.alloc(), &row)?;
+    }
+    Ok(())
+}
+
+#[test]
+fn failing_reads(rt: HostRuntime) -> Result<(), Fail> {
+    let term = ADDITION.input;
+    let line = ADDITION.output;
+    let failed = "ei: read failed\n";
+    for (fails, input, status, output, errors) in [
+        ((Port::Files, 1), term, 7, "", failed),
+        ((Port::Files, 2), term, 7, "", failed),
+        ((Port::Files, 3), term, 7, "", failed),
+        ((Port::Files, 4), term, 0, line, ""),
+        ((Port::Input, 1), term, 7, "", failed),
+        ((Port::Input, 2), term, 7, "", failed),
+        ((Port::Input, 3), term, 7, line, failed),
+        ((Port::Input, 4), term, 0, line, ""),
+        ((Port::Input, 2), "z.", 7, "z\n", failed),
+        ((Port::Input, 2), "q.", 7, "", failed),
+    ] {
+        let row = Row {
+            input,
+            fails,
+            status,
+            output,
+            errors,
+            ..ADDITION
+        };
+        expect(&rt, rt.alloc(), &row)?;
+    }
+    Ok(())
+}
+
+#[test]
+fn failing_writes(rt: HostRuntime) -> Result<(), Fail> {
+    for (fails, words, file, output, errors) in [
+        ((Port::Output, 1), ["E"].as_slice(), PEANO, "", ""),
+        ((Port::Output, 2), ["E"].as_slice(), PEANO, "s(s(s(z", ""),
+        (
+            (Port::Output, 1),
+            ["--check", "E"].as_slice(),
+            PEANO,
+            "",
+            "",
+        ),
+        (
+            (Port::Output, 2),
+            ["--check", "E"].as_slice(),
+            PEANO,
+            "accepte",
+            "",
+        ),
+        ((Port::Errors, 1), ["E"].as_slice(), TWICE, "", ""),
+        ((Port::Errors, 2), ["E"].as_slice(), TWICE, "", "ei: equ"),
+        ((Port::Errors, 1), ["-E"].as_slice(), PEANO, "", ""),
+    ] {
+        let row = Row {
+            words,
+            file,
+            fails,
+            status: 8,
+            output,
+            errors,
+            ..ADDITION
+        };
+        expect(&rt, rt.alloc(), &row)?;
+    }
+    Ok(())
+}
+
+#[test]
+fn long_inputs(rt: HostRuntime) -> Result<(), Fail> {
+    let alloc = rt.alloc();
+    for (bytes, status, told) in [
+        (16_777_216, 0, ""),
+        (16_777_217, 6, "ei: term refused: TermLong at byte 0\n"),
+    ] {
+        let mut files = files(alloc, PEANO, 0)?;
+        let text = vec![in alloc; b' '; bytes]?;
+        let mut input = MemorySource::new(text, 65_536, Vec::new(alloc));
+        let mut output = sink(alloc, 0)?;
+        let mut errors = sink(alloc, 0)?;
+        let words = words(alloc, &["E"])?;
+        let ended = ei(
+            alloc,
+            words,
+            &mut files,
+            &mut input,
+            &mut output,
+            &mut errors,
+        );
+        assert_eq!(rt; ended.number(), status, "at {bytes} bytes");
+        assert_eq!(rt; output.written(), b"".as_slice(), "at {bytes} bytes");
+        assert_eq!(rt; errors.written(), told.as_bytes(), "at {bytes} bytes");
     }
     Ok(())
 }

@@ -1,8 +1,11 @@
 // The top call: a run, and what is told of it.
 ghost use Rattle.std.specs.Prelude.{◌≡◌, ◌≢◌, ◌⊎◌, ◌≤◌, ◌↔◌, ℕ, List, Option, Some, map, string_bytes};
 ghost use Rattle.eq_ports.specs.Causes.{Rose};
-ghost use Rattle.ei_program.specs.Words.{NamesFile};
-ghost use Rattle.ei_program.specs.Telling.{IsTold, IsRun};
+ghost use Rattle.ei_program.specs.Words.{IsCommandLine};
+ghost use Rattle.ei_program.specs.Outcomes.{CanBeTold};
+ghost use Rattle.ei_program.specs.declared.outcome.Outcome.{Outcome as Due};
+ghost use Rattle.ei_program.specs.Due.{IsDue, ComesTo};
+ghost use Rattle.ei_program.specs.Telling.{IsWritten, IsTold, IsRun};
 
 use crate::outcome::Outcome;
 use crate::run::run;
@@ -11,22 +14,40 @@ use crate::stop::Stop;
 use eq_ports::{Files, Sink, Source, write_whole};
 use std::alloc::Global;
 
-/// Tells of an outcome on the errors.
-fn tell<E: Sink>(outcome: Outcome, errors: &mut E) -> Status
-    ensures told { IsTold outcome (E.taken errors.old) (E.taken errors.new) result }
-    ensures words { (result ≡ Status.Words) ↔ (outcome ≡ Outcome.BadWords) }
+/// Writes a message to the errors: the status, or that they cannot be written.
+fn write_message<E: Sink>(message: &[u8], status: Status, errors: &mut E) -> Status
+    ensures written { IsWritten message.now status (E.taken errors.old) (E.taken errors.new) result }
+    ensures kept { result ≢ Status.WriteFailed → result ≡ status }
     ensures later { E.faults errors.old ≤ E.faults errors.new }
-    ensures write { result ≡ Status.WriteFailed → outcome ≢ Outcome.Stopped Stop.WriteFailed → Rose (E.faults errors.old) (E.faults errors.new) }
+    ensures write { result ≡ Status.WriteFailed → status ≢ Status.WriteFailed → Rose (E.faults errors.old) (E.faults errors.new) }
     ensures steady { result ≢ Status.WriteFailed → E.faults errors.new ≡ E.faults errors.old }
 {
-    match write_whole(errors, outcome.message().as_bytes()) {
-        Ok(()) => outcome.status(),
+    match write_whole(errors, message) {
+        Ok(()) => status,
         Err(_) => Status::WriteFailed,
     }
 }
 
+/// Tells of an outcome on the errors, or that there is no memory to do so.
+fn tell<E: Sink>(alloc: Global, outcome: &Outcome, errors: &mut E) -> Status
+    requires { CanBeTold outcome.now }
+    ensures told { IsTold outcome.now (E.taken errors.old) (E.taken errors.new) result }
+    ensures words { result ≡ Status.Words → outcome.now ≡ Outcome.BadWords }
+    ensures read { result ≡ Status.ReadFailed → outcome.now ≡ Outcome.Stopped Stop.ReadFailed }
+    ensures output { outcome.now ≡ Outcome.Stopped Stop.WriteFailed → result ≡ Status.WriteFailed }
+    ensures later { E.faults errors.old ≤ E.faults errors.new }
+    ensures write { result ≡ Status.WriteFailed → outcome.now ≢ Outcome.Stopped Stop.WriteFailed → Rose (E.faults errors.old) (E.faults errors.new) }
+    ensures steady { result ≢ Status.WriteFailed → E.faults errors.new ≡ E.faults errors.old }
+{
+    match outcome.message(alloc) {
+        Ok(message) => write_message(message.as_bytes(), outcome.status(), errors),
+        Err(_) => write_message(b"ei: no memory\n", Status::NoMemory, errors),
+    }
+}
+
 /// Answers the term of the input by the equations of the file that the words name: the print of a normal form on the output, or
-/// `? spent 1000000`, as one line.
+/// `? spent 1000000`, as one line. With `--check` it tells instead how many equations the file gives. What is refused is told
+/// on the errors.
 pub fn ei<F: Files, I: Source, O: Sink, E: Sink>(
     alloc: Global,
     words: Vec<String>,
@@ -41,8 +62,15 @@ pub fn ei<F: Files, I: Source, O: Sink, E: Sink>(
         → IsRun (record { words = map string_bytes words.items; named = named; input = bytes }) (I.left input.new)
         (O.taken output.old) (O.taken output.new) (E.taken errors.old) (E.taken errors.new) result }
 
-    // The words are refused exactly where they are no command line.
-    ensures words { (result ≡ Status.Words) ↔ ((name : List ℕ) → NamesFile (map string_bytes words.items) name → ⊥) }
+    // Where no fault count rose and memory was found, the run comes to what is due by its words, its file and its input.
+    ensures exact { (named : List ℕ → Option (List ℕ)) (bytes : List ℕ) → F.named files.old ≡ Some named → I.left input.old ≡ Some bytes
+        → (due : Due) → IsDue (record { words = map string_bytes words.items; named = named; input = bytes }) due
+        → (¬ Rose (F.faults files.old) (F.faults files.new)) → (¬ Rose (I.faults input.old) (I.faults input.new))
+        → (¬ Rose (O.faults output.old) (O.faults output.new)) → (¬ Rose (E.faults errors.old) (E.faults errors.new))
+        → ComesTo due (E.taken errors.old) (E.taken errors.new) result }
+
+    // The words are refused only where they are no command line.
+    ensures words { result ≡ Status.Words → ¬ IsCommandLine (map string_bytes words.items) }
 
     // A failure is told only where a fault count rose.
     ensures read { result ≡ Status.ReadFailed → Rose (F.faults files.old) (F.faults files.new) ⊎ Rose (I.faults input.old) (I.faults input.new) }
@@ -55,5 +83,5 @@ pub fn ei<F: Files, I: Source, O: Sink, E: Sink>(
     ensures errors_steady { result ≢ Status.WriteFailed → E.faults errors.new ≡ E.faults errors.old }
 {
     let outcome = run(alloc, &words, files, input, output);
-    tell(outcome, errors)
+    tell(alloc, &outcome, errors)
 }

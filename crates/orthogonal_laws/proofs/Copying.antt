@@ -5,8 +5,7 @@ use Rattle.std.proofs.lemmas.List.{drop_more, get_or-map, take_at}
 use Rattle.eq_base.specs.Tree.{Tree, head_of, arity_of, size, nth_subtree, subtrees, cells}
 use Rattle.eq_base.specs.Building.{missing_of}
 use Rattle.eq_base.specs.declared.head.Head.{Head}
-use Rattle.eq_base.proofs.Trees.{length-cells}
-use Rattle.eq_base.proofs.Trees.{label_of, cells-subtrees, length-subtrees}
+use Rattle.eq_base.proofs.Trees.{length-cells, label_of, cells-subtrees, length-subtrees}
 use Rattle.eq_base.proofs.Scans.{cells-from}
 use Rattle.eq_base.proofs.Replacing.{missing_before}
 use Rattle.orthogonal_laws.specs.Replacing.{HasRoom}

@@ -1,18 +1,16 @@
 -- Redexes of plain equations.
-use Rattle.std.proofs.Common.{◌≡◌, ℕ, ◌<◌, ◌≤◌, List, length, map, Some, refl, sym, ◌∙◌, ap, subst, ◌+◌, add-one}
+use Rattle.std.proofs.Common.{◌≡◌, ℕ, ◌<◌, ◌≤◌, List, length, map, Some, refl, sym, ◌∙◌, ap, subst}
 use Rattle.std.specs.Prelude.{slice_get, option_map}
 use Rattle.std.proofs.lemmas.Option.{slice_get-map, slice_get_past, slice_get_within, get_or_from_slice_get}
-use Rattle.eq_base.specs.Tree.{Tree, size, nth_subtree, nth_position, replace_at}
+use Rattle.eq_base.specs.Tree.{Tree, size, nth_subtree}
 use Rattle.eq_base.specs.Pattern.{Substitution, apply, variables, IsInstanceOf}
-use Rattle.eq_base.specs.Rewriting.{System, RightSide, pattern, operation, Rule, Gives, RootStepBy, IsRedexBy, Step, Derivation, IsNormal}
+use Rattle.eq_base.specs.Rewriting.{System, RightSide, pattern, operation, Rule, Gives, RootStepBy, IsRedexBy, IsRedex, IsNormal}
 use Rattle.eq_base.specs.Meeting.{in_symbol_class}
 use Rattle.eq_base.specs.Rules.{right_side, rule_of}
 use Rattle.eq_base.specs.declared.head.Head.{Head}
 use Rattle.eq_base.specs.declared.rules.Equation.{Equation}
-use Rattle.eq_base.proofs.Positions.{number_of, subtree_at-nth_position}
-use Rattle.orthogonal_laws.specs.Replacing.{IsStepBy}
+use Rattle.eq_base.proofs.Positions.{number_of}
 use Rattle.orthogonal_laws.specs.Plain.{plain_system, IsPatternOver, IsPlain, ArePlain}
-use Rattle.orthogonal_laws.specs.Next.{FitsNone}
 
 -- a right side that is a pattern gives some tree
 gives : (system : System Head) (xs : List ℕ) (r : RightSide Head) (σ : Substitution Head) (t : Tree Head) → IsPatternOver xs r → (u : Tree Head) × Gives system σ r t u
@@ -47,24 +45,8 @@ no_redex_past es number t past r =
 -- ---- steps
 
 module _ (system : System Head) (t : Tree Head) where
-  pub IsNormal-from_none : ((k : ℕ) → k < size t → FitsNone system (nth_subtree t k)) → IsNormal system t
+  pub IsNormal-from_none : ((k : ℕ) → k < size t → IsRedex system (nth_subtree t k) → ⊥) → IsNormal system t
   IsNormal-from_none none u step =
       let s = step.1 in
       let n = number_of t step.0 s.redex s.stands in
-      none n.0 n.1 s.root_step.0 (s.contractum, subst (λ r. RootStepBy system s.root_step.0 r s.contractum) (sym n.2) s.root_step.1)
-
-  pub step_from_redex : (k number : ℕ) → k < size t → IsRedexBy system number (nth_subtree t k) → (u : Tree Head) × Step system t u
-  step_from_redex k number lt r = (
-    replace_at t (nth_position t k) r.0,
-    (nth_position t k, record { redex = nth_subtree t k; contractum = r.0; stands = subtree_at-nth_position t k lt; root_step = (number, r.1); result = refl }),
-  )
-
-  -- the term after a replacement is one step on
-  pub step_by : (k number : ℕ) (u : Tree Head) → k < size t → IsStepBy system t k number u → Step system t u
-  step_by k number u lt s = (
-    nth_position t k,
-    record { redex = nth_subtree t k; contractum = s.contractum; stands = subtree_at-nth_position t k lt; root_step = (number, s.root_step); result = sym s.result },
-  )
-
-  pub derived_more : (start : Tree Head) (n : ℕ) (u : Tree Head) → Derivation system start n t → Step system t u → Derivation system start (n + 1) u
-  derived_more start n u d s = rw (add-one n) (Derivation.then d s)
+      none n.0 n.1 (s.contractum, (s.root_step.0, subst (λ r. RootStepBy system s.root_step.0 r s.contractum) (sym n.2) s.root_step.1))

@@ -106,9 +106,6 @@ module _ (left : Tree (PatternCell rust.Head)) (term : Tree rust.Head) (at : ℕ
       opened : SideBySide (grow (nth_subtree left i) (forest_from left (i + size (nth_subtree left i)))) (grow (nth_subtree term here) (forest_from term (here + size (nth_subtree term here)))) whole
       opened = moved _ _ _ _ (forest_from-node left i lt) (forest_from-node term here there) is
 
-      pub scan_fails : (Stands (root_cell (nth_subtree left i)) (nth_subtree term here) → ⊥) → whole → ⊥
-      scan_fails none f = none (fits_stands (nth_subtree left i) (nth_subtree term here) (opened.fits_only f).0)
-
       pub scan_head : (g : rust.Head) (a : ℕ) → root_cell (nth_subtree left i) ≡ Head g a → Stands (root_cell (nth_subtree left i)) (nth_subtree term here) → IsScanned left term at (i + 1) (here + 1)
       scan_head g a e st =
           moved _ _ _ _ (sym (forest_from-args left i lt)) (sym (forest_from-args term here there)) (side_head _ _ _ _ opened g a e st)

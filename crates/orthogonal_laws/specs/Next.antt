@@ -1,27 +1,31 @@
--- Where a term is rewritten next.
-use Rattle.std.specs.Prelude.{ℕ, ◌<◌}
-use Rattle.eq_base.specs.Tree.{Tree, size, nth_subtree}
-use Rattle.eq_base.specs.Rewriting.{System, IsRedexBy, IsFirst, IsNormal}
+-- The next redex of a term, as a node.
+use Rattle.std.specs.Prelude.{◌≡◌, ℕ, ◌+◌, ◌<◌, ◌≤◌, ◌∷◌, [], Some}
+use Rattle.eq_base.specs.Tree.{Tree, size, nth_subtree, Position, nth_position, number, subtree_at}
+use Rattle.eq_base.specs.Rewriting.{System}
 use Rattle.eq_base.specs.declared.head.Head.{Head}
-use Rattle.orthogonal_laws.specs.declared.matching.Fit.{Fit}
-use Rattle.orthogonal_laws.specs.declared.next.Next.{Next}
-use Rattle.orthogonal_laws.specs.declared.next.Next.TheVariants.{Redex, Normal}
+use Rattle.orthogonal_laws.specs.Strategy.{IsDemandedRedex, IsNext}
+use Rattle.orthogonal_laws.specs.Looking.{IsFirstFit}
+use Rattle.orthogonal_laws.specs.declared.demand.Fit.{Fit}
 
--- the rule with this number is the first that fits the tree
-pub record IsFirstFit (system : System Head) (number : ℕ) (t : Tree Head) : Type 0 where
-  pub redex : IsRedexBy system number t
-  pub first : IsFirst system number t
-
--- no rule fits the tree
-abbrev pub FitsNone : System Head → Tree Head → Type 0
-FitsNone system t = (k : ℕ) → IsRedexBy system k t → ⊥
-
--- the fit is a node of the tree and the first rule that fits there
-pub record IsFit (system : System Head) (t : Tree Head) (fit : Fit) : Type 0 where
+-- the node is the demanded redex of the subterm at another, and the rule is the first that fits there
+pub record IsDemandedFit (system : System Head) (t : Tree Head) (at : ℕ) (fit : Fit) : Type 0 where
+  pub position : Position
+  pub demanded : IsDemandedRedex system (nth_subtree t at) position
   pub there : fit.at < size t
+  pub stands : subtree_at (nth_subtree t at) position ≡ Some (nth_subtree t fit.at)
+  pub place : fit.at ≡ at + number (nth_subtree t at) position
   pub first : IsFirstFit system fit.equation (nth_subtree t fit.at)
 
--- a node with a root step, and the first rule that fits there; or that the tree is normal
-abbrev pub IsNext : System Head → Tree Head → Next → Type 0
-IsNext system t (Redex at equation) = (at < size t) × IsFirstFit system equation (nth_subtree t at)
-IsNext system t Normal = IsNormal system t
+-- the node is the argument of a node in which another lies
+pub record IsArgumentToward (t : Tree Head) (at node argument : ℕ) : Type 0 where
+  pub i : ℕ
+  pub stands : subtree_at (nth_subtree t at) (i ∷ []) ≡ Some (nth_subtree t argument)
+  pub place : argument ≡ at + number (nth_subtree t at) (i ∷ [])
+  pub before : argument ≤ node
+  pub within : node < argument + size (nth_subtree t argument)
+
+-- the next redex is the node with this number, and the rule is the first that fits there
+pub record IsNextRedex (system : System Head) (t : Tree Head) (at equation : ℕ) : Type 0 where
+  pub there : at < size t
+  pub next : IsNext system t (nth_position t at)
+  pub first : IsFirstFit system equation (nth_subtree t at)

@@ -2,6 +2,7 @@
 #![tactic(auto)]
 
 mod demand;
+pub mod laws;
 mod matching;
 pub mod next;
 pub mod plain;
@@ -12,5 +13,9 @@ pub use next::{Next, plain_next};
 pub use plain::are_plain;
 pub use run::{PlainEnd, plain_run};
 
+#[cfg(test)]
+mod samples;
+#[cfg(test)]
+mod slow;
 #[cfg(test)]
 mod tests;

@@ -1,42 +1,45 @@
-// Which left sides fit at a node.
-ghost use Rattle.std.specs.Prelude.{◌≡◌, ◌<◌, ◌↔◌, IsTrue, MatchOption};
+// Which left sides fit at a node, and where the others fail.
+ghost use Rattle.std.specs.Prelude.{◌≡◌, ◌<◌, ◌≤◌, ◌-◌, ◌↔◌, IsTrue, MatchOption};
 ghost use Rattle.eq_base.specs.Tree.{size, nth_subtree};
 ghost use Rattle.eq_base.specs.Pattern.{IsLinear, IsInstanceOf};
 ghost use Rattle.eq_base.specs.Meeting.{in_symbol_class};
-ghost use Rattle.orthogonal_laws.specs.Matching.{Stands};
+ghost use Rattle.orthogonal_laws.specs.Matching.{Stands, FailsAt};
 ghost use Rattle.orthogonal_laws.specs.Plain.{plain_system, ArePlain};
-ghost use Rattle.orthogonal_laws.specs.Next.{FitsNone, IsFit};
+ghost use Rattle.orthogonal_laws.specs.Looking.{IsLook};
 
 use eq_base::{Cell, Flat, Pattern, Rules, is_in_class};
 
-/// A redex: a node, and the first equation that fits there.
+/// What the left sides come to at a node.
 #[derive(Clone, Copy)]
-pub struct Fit {
-    /// The node's number in preorder.
-    pub at: usize,
-    /// The equation's number, counted from 0.
-    pub equation: usize,
+pub enum Look {
+    /// The first equation that fits there, by its number, counted from 0.
+    Fits(usize),
+    /// None fits, and this is the last of the nodes at which they first fail.
+    Fails(usize),
 }
 
-/// The first equation that fits at a node.
-pub fn first_fit(rules: &Rules, term: &Flat, at: usize) -> Option<Fit>
+/// What the left sides come to at a node.
+pub fn look_at(rules: &Rules, term: &Flat, at: usize) -> Look
     requires plain { ArePlain rules.now }
     requires at { at < size term.now }
-    ensures { MatchOption result (FitsNone (plain_system rules.now) (nth_subtree term.now at)) (IsFit (plain_system rules.now) term.now) }
+    ensures { IsLook rules.now term.now at result }
 {
+    let mut last = at;
     for equation in 0..rules.len() {
-        if matches(&rules.equation(equation).left, term, at) {
-            return Some(Fit { at, equation });
+        match first_mismatch(&rules.equation(equation).left, term, at) {
+            None => return Look::Fits(equation),
+            Some(node) => last = last.max(node),
         }
     }
-    None
+    Look::Fails(last)
 }
 
-/// Whether the subterm at a node is an instance of the left side.
-pub fn matches(left: &Pattern, term: &Flat, at: usize) -> bool
+/// The first node, in preorder, at which the subterm at a node fails to meet the left side; none
+/// where it is an instance.
+pub fn first_mismatch(left: &Pattern, term: &Flat, at: usize) -> Option<usize>
     requires linear { IsLinear left.now }
     requires at { at < size term.now }
-    ensures { IsTrue result ↔ IsInstanceOf in_symbol_class left.now (nth_subtree term.now at) }
+    ensures { MatchOption result (IsInstanceOf in_symbol_class left.now (nth_subtree term.now at)) (λ node. (at ≤ node) × FailsAt left.now (nth_subtree term.now at) (node - at)) }
 {
     let len = term.len();
     let mut i = 0;
@@ -45,7 +48,7 @@ pub fn matches(left: &Pattern, term: &Flat, at: usize) -> bool
         prove!(node < len);
         let cell = left.cell(i);
         if !stands_at(cell, term, node) {
-            return false;
+            return Some(node);
         }
         if let Cell::Head(_, _) = cell {
             i += 1;
@@ -55,7 +58,7 @@ pub fn matches(left: &Pattern, term: &Flat, at: usize) -> bool
             node = term.end_of(node);
         }
     }
-    true
+    None
 }
 
 /// Whether a node is what the cell asks for: its head over as many arguments, or a constant of its class.

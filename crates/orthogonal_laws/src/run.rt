@@ -1,14 +1,15 @@
-// Runs of replacements.
+// Plain runs.
 ghost use Rattle.std.specs.Prelude.{IfOk};
 ghost use Rattle.orthogonal_laws.specs.Plain.{plain_system, ArePlain};
-ghost use Rattle.orthogonal_laws.specs.Run.{IsRun};
+ghost use Rattle.orthogonal_laws.specs.Run.{IsEnd};
 
 use crate::next::{Next, plain_next};
 use crate::replacing::replace;
-use eq_base::{Flat, NoMemory, Rules};
+use eq_base::{Flat, NoMemory};
+use sequentiality::Regular;
 use std::alloc::Global;
 
-/// How a run of replacements ends.
+/// How a plain run ends.
 #[derive(Drop)]
 pub enum PlainEnd {
     /// In a normal form, after so many replacements.
@@ -21,17 +22,18 @@ pub enum PlainEnd {
 /// A replacement copies the term. Where there is no memory the term is dropped.
 pub fn plain_run(
     alloc: Global,
-    rules: &Rules,
+    regular: &Regular,
     term: Flat,
     budget: u64,
 ) -> Result<PlainEnd, NoMemory>
-    requires { ArePlain rules.now }
-    ensures { IfOk result (IsRun (plain_system rules.now) term budget) }
+    requires { ArePlain regular.now }
+    ensures { IfOk result (IsEnd (plain_system regular.now) term budget) }
 {
+    let rules = regular.rules();
     let mut term = term;
     let mut steps = 0;
     loop {
-        match plain_next(rules, &term) {
+        match plain_next(regular, &term) {
             Next::Normal => return Ok(PlainEnd::Normal(term, steps)),
             Next::Redex { at, equation } => {
                 if steps == budget {

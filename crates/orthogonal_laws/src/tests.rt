@@ -1,87 +1,42 @@
+// Plain runs, and next redexes by their definition.
 ghost use Rattle.orthogonal_laws.specs.Plain.{ArePlain};
 
-use crate::{PlainEnd, are_plain, plain_run};
-use eq_base::{
-    Cell, Equation, Flat, FlatMaker, Head, NoMemory, Origin, Pattern, PatternMaker, Right, Rules,
-    same_tree,
-};
+use crate::samples::{add, admitted, head, term};
+use crate::slow::next_by_definition;
+use crate::{PlainEnd, plain_next, plain_run};
+use eq_base::{Cell, Flat, NoMemory, Rules, same_tree};
+use sequentiality::Regular;
 use std::alloc::Global;
 use std::test::Fail;
 
-const Z: (u32, u8) = (2, 0);
+const Z: u8 = 2;
 
-const S: (u32, u8) = (3, 1);
+const LOOP: u8 = 3;
 
-const PLUS: (u32, u8) = (4, 2);
+const A: u8 = 4;
 
-const LOOP: (u32, u8) = (5, 0);
+const B: u8 = 5;
 
-const F: (u32, u8) = (6, 2);
+const S: u8 = 8;
 
-const G: (u32, u8) = (7, 1);
+const G: u8 = 9;
 
-const A: (u32, u8) = (8, 0);
+const H: u8 = 10;
 
-const B: (u32, u8) = (9, 0);
+const PLUS: u8 = 16;
+
+const F: u8 = 17;
+
+const YES: u8 = 1;
+
+const TRUTH: Cell = Cell::Class(2, 2);
 
 const X: Cell = Cell::Var(0);
 
 const Y: Cell = Cell::Var(1);
 
-fn head(symbol: (u32, u8)) -> Cell {
-    Cell::Head(Head::Symbol(symbol.0), symbol.1)
-}
-
-// The term with these symbols in preorder, if there is one.
-fn term(alloc: Global, symbols: &[(u32, u8)]) -> Result<Option<Flat>, NoMemory> {
-    let mut maker = FlatMaker::new(alloc);
-    for symbol in symbols {
-        if maker.missing() > 0 {
-            maker.push_cell(Head::Symbol(symbol.0), symbol.1)?;
-        }
-    }
-    Ok(if maker.missing() == 0 {
-        Some(maker.finish())
-    } else {
-        None
-    })
-}
-
-// The pattern with these cells in preorder, if there is one.
-fn pattern(alloc: Global, cells: &[Cell]) -> Result<Option<Pattern>, NoMemory> {
-    let mut maker = PatternMaker::new(alloc);
-    for cell in cells {
-        if let Cell::Head(Head::Symbol(_), _) | Cell::Var(_) = *cell {
-            if maker.missing() > 0 {
-                maker.push_cell(*cell)?;
-            }
-        }
-    }
-    Ok(if maker.missing() == 0 {
-        Some(maker.finish())
-    } else {
-        None
-    })
-}
-
-// Adds an equation, if both sides are patterns.
-fn add(alloc: Global, rules: &mut Rules, left: &[Cell], right: &[Cell]) -> Result<(), NoMemory> {
-    if let Some(left) = pattern(alloc, left)? {
-        if let Some(right) = pattern(alloc, right)? {
-            let origin = Origin { item: 1, part: 0 };
-            let right = Right::Tree(right);
-            rules.push(Equation {
-                left,
-                right,
-                origin,
-            })?;
-        }
-    }
-    Ok(())
-}
-
 // plus(z, x) = x; plus(s(x), y) = s(plus(x, y)); loop = loop; f(x, a) = b; g(x) = a.
-fn rules(alloc: Global) -> Result<Rules, NoMemory> {
+fn sums(alloc: Global) -> Result<Rules, NoMemory> {
     let mut rules = Rules::new(alloc);
     add(alloc, &mut rules, &[head(PLUS), head(Z), X], &[X])?;
     add(
@@ -96,16 +51,92 @@ fn rules(alloc: Global) -> Result<Rules, NoMemory> {
     Ok(rules)
 }
 
+// g(h(a)) = b; h(b) = a: a node inside a part of a left side is a redex.
+fn parts(alloc: Global) -> Result<Rules, NoMemory> {
+    let mut rules = Rules::new(alloc);
+    add(alloc, &mut rules, &[head(G), head(H), head(A)], &[head(B)])?;
+    add(alloc, &mut rules, &[head(H), head(B)], &[head(A)])?;
+    Ok(rules)
+}
+
+// h(f(a, b)) = a; f(b, a) = b; g(x) = a: a part is met further on than the whole.
+fn further(alloc: Global) -> Result<Rules, NoMemory> {
+    let mut rules = Rules::new(alloc);
+    add(
+        alloc,
+        &mut rules,
+        &[head(H), head(F), head(A), head(B)],
+        &[head(A)],
+    )?;
+    add(alloc, &mut rules, &[head(F), head(B), head(A)], &[head(B)])?;
+    add(alloc, &mut rules, &[head(G), X], &[head(A)])?;
+    Ok(rules)
+}
+
+// f(n, a) = n where n is a truth value; f(h(x), y) = y; g(x) = a.
+fn classes(alloc: Global) -> Result<Rules, NoMemory> {
+    let mut rules = Rules::new(alloc);
+    add(alloc, &mut rules, &[head(F), TRUTH, head(A)], &[TRUTH])?;
+    add(alloc, &mut rules, &[head(F), head(H), X, Y], &[Y])?;
+    add(alloc, &mut rules, &[head(G), X], &[head(A)])?;
+    Ok(rules)
+}
+
+// The term whose symbols are the digits of the number, if there is one.
+fn term_by_number(alloc: Global, symbols: &[u8], number: usize) -> Result<Option<Flat>, NoMemory> {
+    let mut chosen: Vec<u8> = vec![in alloc]?;
+    let mut rest = number;
+    for _ in 0..5 {
+        if let Some(digit) = rest.checked_rem(symbols.len()) {
+            if let Some(symbol) = symbols.get(digit) {
+                chosen.push(*symbol)?;
+            }
+            rest /= symbols.len();
+        }
+    }
+    term(alloc, &chosen)
+}
+
+// Whether the next redex of each small term over these symbols is that of the definition.
+fn is_next_by_definition(alloc: Global, regular: &Regular, symbols: &[u8]) -> Result<bool, NoMemory>
+    requires { ArePlain regular.now }
+{
+    for number in 0..7776 {
+        if let Some(term) = term_by_number(alloc, symbols, number)? {
+            if plain_next(regular, &term) != next_by_definition(alloc, regular.rules(), &term)? {
+                return Ok(false);
+            }
+        }
+    }
+    Ok(true)
+}
+
+#[test]
+fn next_redexes_are_those_of_the_definition(rt: HostRuntime) -> Result<(), Fail> {
+    let alloc = rt.alloc();
+    for (rules, symbols) in [
+        (sums(alloc)?, [PLUS, S, Z, LOOP, F, A]),
+        (sums(alloc)?, [F, G, PLUS, Z, A, B]),
+        (parts(alloc)?, [G, H, F, A, B, Z]),
+        (further(alloc)?, [H, F, G, A, B, Z]),
+        (classes(alloc)?, [F, H, G, A, B, YES]),
+    ] {
+        let regular = admitted(alloc, rules).expect(&rt, "these are regular");
+        assert!(rt; is_next_by_definition(alloc, &regular, &symbols)?);
+    }
+    Ok(())
+}
+
 // Whether the run ends in this normal form after so many steps.
 fn is_normal_after(
     alloc: Global,
-    rules: &Rules,
-    start: &[(u32, u8)],
+    regular: &Regular,
+    start: &[u8],
     budget: u64,
     steps: u64,
-    end: &[(u32, u8)],
+    end: &[u8],
 ) -> Result<bool, NoMemory>
-    requires { ArePlain rules.now }
+    requires { ArePlain regular.now }
 {
     let Some(start) = term(alloc, start)? else {
         return Ok(false);
@@ -113,25 +144,20 @@ fn is_normal_after(
     let Some(end) = term(alloc, end)? else {
         return Ok(false);
     };
-    Ok(match plain_run(alloc, rules, start, budget)? {
+    Ok(match plain_run(alloc, regular, start, budget)? {
         PlainEnd::Normal(found, made) => made == steps && same_tree(&found, &end),
         PlainEnd::Spent(_) => false,
     })
 }
 
 // Whether the run spends the budget.
-fn is_spent(
-    alloc: Global,
-    rules: &Rules,
-    start: &[(u32, u8)],
-    budget: u64,
-) -> Result<bool, NoMemory>
-    requires { ArePlain rules.now }
+fn is_spent(alloc: Global, regular: &Regular, start: &[u8], budget: u64) -> Result<bool, NoMemory>
+    requires { ArePlain regular.now }
 {
     let Some(start) = term(alloc, start)? else {
         return Ok(false);
     };
-    Ok(match plain_run(alloc, rules, start, budget)? {
+    Ok(match plain_run(alloc, regular, start, budget)? {
         PlainEnd::Normal(_, _) => false,
         PlainEnd::Spent(_) => true,
     })
@@ -140,14 +166,12 @@ fn is_spent(
 #[test]
 fn runs_end_as_written(rt: HostRuntime) -> Result<(), Fail> {
     let alloc = rt.alloc();
-    let rules = rules(alloc)?;
-    assert_eq!(rt; rules.len(), 5);
-    assert!(rt; are_plain(&rules));
+    let regular = admitted(alloc, sums(alloc)?).expect(&rt, "these are regular");
     let sum = [PLUS, S, S, Z, S, Z];
-    assert!(rt; is_normal_after(alloc, &rules, &sum, 3, 3, &[S, S, S, Z])?);
-    assert!(rt; is_spent(alloc, &rules, &sum, 2)?);
-    assert!(rt; is_spent(alloc, &rules, &[LOOP], 1000)?);
+    assert!(rt; is_normal_after(alloc, &regular, &sum, 3, 3, &[S, S, S, Z])?);
+    assert!(rt; is_spent(alloc, &regular, &sum, 2)?);
+    assert!(rt; is_spent(alloc, &regular, &[LOOP], 1000)?);
     // The left side of f asks for its second argument alone.
-    assert!(rt; is_normal_after(alloc, &rules, &[F, LOOP, G, LOOP], 9, 2, &[B])?);
+    assert!(rt; is_normal_after(alloc, &regular, &[F, LOOP, G, LOOP], 9, 2, &[B])?);
     Ok(())
 }

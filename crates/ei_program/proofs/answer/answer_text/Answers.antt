@@ -19,9 +19,9 @@ returns-in-Ok-None-clause-left g c =
 
 pub line_of-requires-clause-accepted : goal.line_of-requires-clause-accepted
 line_of-requires-clause-accepted g c =
-    let plain = c.args.plain.now in
-    let grown : Definitions = record { table = c.read_input.new.symbols; variables = plain.variables; equations = plain.rules } in
-    still_accepted (definitions_of plain) grown (record { table = c.read_input.ensures.keeps; variables = refl; equations = refl }) c.requires
+    let loaded = c.args.loaded.now in
+    let grown : Definitions = record { table = c.read_input.new.symbols; variables = loaded.variables; equations = loaded.regular } in
+    still_accepted (definitions_of loaded) grown (record { table = c.read_input.ensures.keeps; variables = refl; equations = refl }) c.requires
 
 pub line_of-requires-clause-printable : goal.line_of-requires-clause-printable
 line_of-requires-clause-printable g c =
@@ -31,11 +31,11 @@ line_of-requires-clause-printable g c =
 
 pub returns-in-Ok-clause-left : goal.returns-in-Ok-clause-left
 returns-in-Ok-clause-left g c =
-    let plain = c.args.plain.now in
+    let loaded = c.args.loaded.now in
     let text = c.args.text.now in
     let term = c.in-Ok-Some.term in
-    let d : Definitions = record { table = c.read_input.new.symbols; variables = plain.variables; equations = plain.rules } in
+    let d : Definitions = record { table = c.read_input.new.symbols; variables = loaded.variables; equations = loaded.regular } in
     let I = λ (o : Option (Tree Head)). IsInput d.table text o in
     let holds : Holds d.table text (term ∷ []) = subst I c.in-Ok-Some.field-0-is c.in-Ok-Some.ensures.holds in
-    let left = c.write_line.ensures.left d term c.in-Ok.ensures in
-    (left.0, line_is_text d text term c.write_line.result left.0 holds left.1, left.2)
+    let left = c.write_line.ensures.left c.args.budget d term c.in-Ok.ensures in
+    (left.0, line_is_text c.args.budget d text term c.write_line.result left.0 holds left.1, left.2)

@@ -1,6 +1,9 @@
-use Rattle.std.proofs.Common.{ℕ, List, subst, sym, map, string_bytes, String}
+use Rattle.ei_program.specs.Run.{Given}
+use Rattle.ei_program.specs.Due.{IsDue}
+use Rattle.ei_program.proofs.Exact.{comes_to}
+use Rattle.std.proofs.Common.{⊎_elim, List, subst, sym, map, string_bytes, String}
 use Rattle.std.specs.declared.alloc.Global.{Global}
-use Rattle.ei_program.specs.Words.{NamesFile}
+use Rattle.ei_program.specs.Words.{IsCommandLine}
 use Rattle.ei_program.specs.Run.{Leaves, LeavesOn}
 use Rattle.ei_program.proofs.top_call.ei.Goals as goal
 
@@ -12,9 +15,20 @@ returns-clause-leaves g c = λ named bytes known is.
     record { outcome = r.result; leaves = subst W c.deref.ensures.value (r.ensures.left named bytes known is); told = c.tell.ensures.told }
 
 pub returns-clause-words : goal.returns-clause-words
-returns-clause-words g c =
-    let W = λ (words : List (String Global)). (name : List ℕ) → NamesFile (map string_bytes words) name → ⊥ in
-    let same = c.deref.ensures.value in
-    let words = c.run-outcome.ensures.words in
-    let told = c.tell.ensures.words in
-    (λ e. subst W same (words.0 (told.0 e)), λ none. told.1 (words.1 (subst W (sym same) none)))
+returns-clause-words g c = λ e.
+    let W = λ (words : List (String Global)). IsCommandLine (map string_bytes words) → ⊥ in
+    subst W c.deref.ensures.value (c.run-outcome.ensures.words.0 (c.tell.ensures.words e))
+
+pub returns-clause-output_steady : goal.returns-clause-output_steady
+returns-clause-output_steady g c = λ other. c.run-outcome.ensures.output_steady (λ failed. other (c.tell.ensures.output failed))
+
+pub returns-clause-exact : goal.returns-clause-exact
+returns-clause-exact g c = λ named bytes known is due is_due no_file no_input no_output no_error.
+    let r = c.run-outcome in
+    let W = λ (words : List (String Global)). IsDue (record { words = map string_bytes words; named = named; input = bytes }) due in
+    let given : Given = record { words = map string_bytes c.deref.result.now; named = named; input = bytes } in
+    let left = r.ensures.left named bytes known is in
+    let told = c.tell.ensures in
+    comes_to given (g.I.Source.left r.new.input) r.result left.0 left.1 due (subst W (sym c.deref.ensures.value) is_due)
+    (λ e. ⊎_elim no_file no_input (r.ensures.read e)) (λ e. no_output (r.ensures.write e))
+    (g.E.Sink.taken c.args.errors.now) (g.E.Sink.taken c.tell.new.errors) c.tell.result told.told (λ e other. no_error (told.write e other))

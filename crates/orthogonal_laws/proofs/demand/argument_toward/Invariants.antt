@@ -1,8 +1,10 @@
-use Rattle.std.proofs.Common.{◌-◌, ◌<◌, ◌≤◌}
+use Rattle.std.proofs.Common.{◌≡◌, ℕ, ◌-◌, ◌<◌, ◌≤◌}
+use Rattle.eq_base.specs.Tree.{arity_of, size, nth_subtree}
+use Rattle.eq_base.proofs.Trees.{argument_of}
 use Rattle.orthogonal_laws.proofs.demand.argument_toward.Given as goal
 
 abbrev pub invariant-loop-argument : goal.invariant-loop-argument
-invariant-loop-argument l = (l.at < l.argument) × (l.argument ≤ l.node)
+invariant-loop-argument l = record { i : ℕ; there : i < arity_of (nth_subtree l.term l.at); place : l.argument ≡ argument_of l.term l.at i; before : l.argument ≤ l.node }
 
 abbrev pub decreases-loop-argument : goal.decreases-loop-argument
-decreases-loop-argument l = l.node - l.argument
+decreases-loop-argument l = size l.term - l.argument

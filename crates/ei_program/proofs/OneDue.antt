@@ -1,0 +1,203 @@
+-- A run has one outcome to come to, and comes to none but that one.
+use Rattle.std.proofs.Common.{◌≡◌, ◌≤◌, ◌^◌, ◌⊎◌, ℕ, List, [], ◌∷◌, inl, inr, refl, sym, ap, ◌∙◌, ◌++◌, drop, subst, arith, length}
+use Rattle.std.specs.Prelude.{codes, slice_index_or}
+use Rattle.std.specs.Str.Parse.{digits_value}
+use Rattle.std.specs.declared.option.Option.{Option}
+use Rattle.eq_base.specs.declared.rules.Equation.{Equation}
+use Rattle.eq_base.proofs.Heads.{some_same}
+use Rattle.regularity.specs.declared.breaks.Break.{Break}
+use Rattle.term_lex.specs.declared.fault.Fault.{Fault}
+use Rattle.symbol_table.specs.Table.{Table, HasDistinctNames}
+use Rattle.sequentiality.specs.Violations.{IsViolation}
+use Rattle.sequentiality.specs.Regular.{AreRegular, IsRefused as IsBroken}
+use Rattle.sequentiality.specs.declared.regular.AdmitError.TheVariants.{Broken as BrokenRules}
+use Rattle.def_file.specs.Names.{places_of}
+use Rattle.def_file.proofs.OneNaming.{distinct_names, distinct_as}
+use Rattle.ei_program.specs.declared.words.Task.{Task}
+use Rattle.ei_program.specs.declared.words.Task.TheVariants.{Answer, Check}
+use Rattle.ei_program.specs.declared.stop.Stop.{Stop}
+use Rattle.ei_program.specs.declared.outcome.Outcome.{Outcome}
+use Rattle.ei_program.specs.declared.outcome.Outcome.TheVariants.{Answered, Questions, BadWords, FileRefused, Broken, TermRefused, Stopped}
+use Rattle.ei_program.specs.Words.{IsTask, Asks, IsCommandLine}
+use Rattle.ei_program.specs.Input.{Holds, RefusesInput}
+use Rattle.eq_base.specs.Tree.{Tree}
+use Rattle.eq_base.specs.declared.head.Head.{Head}
+use Rattle.regularity.specs.Listing.{Lists}
+use Rattle.ei_program.specs.Definitions.{Definitions, Gives, RefusesFile, Grows}
+use Rattle.ei_program.specs.Run.{Given, HasFile, HasDefinitions, Accepts, Leaves}
+use Rattle.ei_program.specs.Due.{CanAnswer, HasTermFault, IsDue, AnswersDue}
+use Rattle.ei_program.proofs.CommandLines.{one_last}
+use Rattle.ei_program.proofs.OneListing.{one_listing}
+use Rattle.ei_program.proofs.OneGiving.{none_included, same_equations, same_declared, defines_or_refused, one_refusal}
+use Rattle.ei_program.proofs.OneInput.{held_or_refused, one_fault}
+
+-- ---- the words
+
+same_digits : (digits other : List ℕ) → codes "--replacements=" ++ digits ≡ codes "--replacements=" ++ other → digits ≡ other
+same_digits digits other is = ap (drop 15) is
+
+one_task : (options : List (List ℕ)) (task other : Task) → IsTask options task → IsTask options other → task ≡ other
+one_task options (Answer b) (Answer c) (inl is) (inl is') = ap (λ n. Answer n) (is.1 ∙ sym is'.1)
+one_task options (Answer b) (Answer c) (inl is) (inr (digits, is', budget)) = let both = sym is.0 ∙ is' in cc
+one_task options (Answer b) (Answer c) (inr (digits, is, budget)) (inl is') = let both = sym is'.0 ∙ is in cc
+one_task options (Answer b) (Answer c) (inr (digits, is, budget)) (inr (digits', is', budget')) =
+    let word = ap (λ (words : List (List ℕ)). slice_index_or words 0 []) (sym is ∙ is') in
+    ap (λ n. Answer n) (budget.value ∙ ap (digits_value 10) (same_digits digits digits' word) ∙ sym budget'.value)
+one_task options (Answer b) Check (inl is) is' = let both = sym is.0 ∙ is' in cc
+one_task options (Answer b) Check (inr (digits, is, budget)) is' = let word = ap (λ (words : List (List ℕ)). slice_index_or (slice_index_or words 0 []) 2 0) (sym is ∙ is') in cc
+one_task options Check (Answer c) is (inl is') = let both = sym is'.0 ∙ is in cc
+one_task options Check (Answer c) is (inr (digits, is', budget)) = let word = ap (λ (words : List (List ℕ)). slice_index_or (slice_index_or words 0 []) 2 0) (sym is ∙ is') in cc
+one_task options Check Check is is' = refl
+
+one_asked : (words : List (List ℕ)) (task other : Task) (file file' : List ℕ) → Asks words task file → Asks words other file' → (task ≡ other) × (file ≡ file')
+one_asked words task other file file' a b =
+    let same = one_last a.options b.options file file' (sym a.parts ∙ b.parts) in
+    (one_task b.options task other (subst (λ options. IsTask options task) same.0 a.asked) b.asked, same.1)
+
+module _ (given : Given) where
+  -- ---- the file
+
+  one_file : (task other : Task) (bytes bytes' : List ℕ) → HasFile given task bytes → HasFile given other bytes' → (task ≡ other) × (bytes ≡ bytes')
+  one_file task other bytes bytes' h k =
+      let same = one_asked given.words task other h.name k.name h.asked k.asked in
+      (same.0, some_same bytes bytes' (sym h.found ∙ ap given.named same.1 ∙ k.found))
+
+  -- the definitions that two commands have are of one file
+  both_give : (task other : Task) (d e : Definitions) (h : HasDefinitions given task d) → HasDefinitions given other e → Gives h.bytes e
+  both_give task other d e h k = subst (λ bytes. Gives bytes e) (sym (one_file task other h.bytes k.bytes h.file k.file).1) k.defines.0
+
+  has_or_refused : (task other : Task) (d : Definitions) (bytes : List ℕ) (f : Fault) → HasDefinitions given task d → HasFile given other bytes → RefusesFile bytes f → ⊥
+  has_or_refused task other d bytes f h k why = defines_or_refused h.bytes d f h.defines (subst (λ text. RefusesFile text f) (sym (one_file task other h.bytes bytes h.file k).1) why)
+
+  -- ---- the restrictions
+
+  regular_or_broken : (es : List Equation) (breaks : List Break) (rules : List Equation) → AreRegular es → IsBroken es (BrokenRules breaks rules) → ⊥
+  regular_or_broken es [] rules regular (same, lists, some) = omega (arith, some)
+  regular_or_broken es (b ∷ bs) rules regular (same, lists, some) = regular.no_violation b (lists.only b (0, some, refl))
+
+  accepts_or_broken : (task other : Task) (d e : Definitions) (breaks : List Break) (rules : List Equation) → Accepts given task d → HasDefinitions given other e → IsBroken e.equations (BrokenRules breaks rules) → ⊥
+  accepts_or_broken task other d e breaks rules a k broken =
+      let same = same_equations a.definitions.bytes d e a.definitions.defines.0 (both_give task other d e a.definitions k) in
+      regular_or_broken e.equations breaks rules (subst AreRegular same a.regular) broken
+
+  one_broken : (task other : Task) (d e : Definitions) (bs cs : List Break) (rs ss : List Equation) → HasDefinitions given task d → HasDefinitions given other e → IsBroken d.equations (BrokenRules bs rs) → IsBroken e.equations (BrokenRules cs ss) → (bs ≡ cs) × (rs ≡ ss)
+  one_broken task other d e bs cs rs ss h k one two =
+      let same = same_equations h.bytes d e h.defines.0 (both_give task other d e h k) in
+      (one_listing (IsViolation e.equations) bs cs (subst (λ es. Lists (IsViolation es) bs) same one.1) two.1, one.0 ∙ same ∙ sym two.0)
+
+  -- ---- the input
+
+  -- definitions to which atoms and texts have joined: no class is included, and no name declared twice
+  grown_none : (text : List ℕ) (d e : Definitions) → Gives text d → Grows d e → e.table.included ≡ []
+  grown_none text d e g grows = grows.table.included ∙ ap (λ (o : Definitions). o.table.included) g.is ∙ none_included text d g
+
+  grown_names : (text : List ℕ) (d e : Definitions) → Gives text d → Grows d e → HasDistinctNames e.table
+  grown_names text d e g grows =
+      let says = g.says in
+      let once = distinct_names text (places_of says.file) says.known says.names in
+      let to_file = ap (λ (o : Definitions). o.table) g.is ∙ says.symbols in
+      distinct_as says.known.table e.table (sym (grows.table.declared ∙ ap (λ (t : Table). t.declared) to_file)) (sym (grows.table.included ∙ ap (λ (t : Table). t.included) to_file)) once.names
+
+  module _ (task other : Task) (d e d' e' : Definitions) (a : Accepts given task d) (b : Accepts given other d') (grows : Grows d e) (grows' : Grows d' e') where
+    abbrev text : List ℕ
+    text = a.definitions.bytes
+
+    gives : Gives text d
+    gives = a.definitions.defines.0
+
+    gives' : Gives text d'
+    gives' = both_give task other d d' a.definitions b.definitions
+
+    grown_same : e.table.declared ≡ e'.table.declared
+    grown_same = grows.table.declared ∙ same_declared text d d' gives gives' ∙ sym grows'.table.declared
+
+    one_term_fault : (f g : Fault) → RefusesInput e.table given.input f → RefusesInput e'.table given.input g → f ≡ g
+    one_term_fault f g r s = one_fault e.table e'.table grown_same (grown_none text d e gives grows) (grown_none text d' e' gives' grows') (grown_names text d' e' gives' grows') given.input f g r s
+
+    held_not_refused : (f : Fault) (terms : List (Tree Head)) → RefusesInput e.table given.input f → length given.input ≤ 2 ^ 24 → Holds e'.table given.input terms → ⊥
+    held_not_refused f terms r short holds = held_or_refused e.table e'.table grown_same (grown_none text d e gives grows) (grown_none text d' e' gives' grows') (grown_names text d' e' gives' grows') given.input f terms r short holds
+
+  -- ---- one outcome
+
+  asked_words : (task : Task) (d : Definitions) → HasDefinitions given task d → IsCommandLine given.words
+  asked_words task d h = (task, h.file.name, h.file.asked)
+
+  other_task : (budget : ℕ) (d e : Definitions) → Accepts given (Answer budget) d → Accepts given Check e → ⊥
+  other_task budget d e a b = let same = (one_file (Answer budget) Check a.definitions.bytes b.definitions.bytes a.definitions.file b.definitions.file).0 in cc
+
+  -- what is due when all can be answered
+  abbrev Due : Type 0
+  Due = CanAnswer given ⊎ ((d : Definitions) × Accepts given Check d)
+
+  due_has : Due → (task : Task) × (d : Definitions) × Accepts given task d
+  due_has (inl c) = (Answer c.budget, c.definitions, c.accepts)
+  due_has (inr (d, a)) = (Check, d, a)
+
+  due_not_refused : Due → (f : Fault) → HasTermFault given f → ⊥
+  due_not_refused (inl c) f t = held_not_refused (Answer t.budget) (Answer c.budget) t.definitions t.grown c.definitions c.grown t.accepts c.accepts t.grows c.grows f c.terms t.refused c.short c.holds
+  due_not_refused (inr (d, a)) f t = other_task t.budget t.definitions d t.accepts a
+
+  -- a run that does not stop early comes to what is due
+  pub one_due : (due outcome : Outcome) → IsDue given due → IsDue given outcome → AnswersDue due outcome
+  one_due BadWords BadWords p q = refl
+  one_due BadWords (FileRefused f) p (task, bytes, file, why) = absurd (p (task, file.name, file.asked))
+  one_due BadWords (Broken bs rs) p (task, d, h, broken) = absurd (p (asked_words task d h))
+  one_due BadWords (TermRefused f) p t = absurd (p (asked_words (Answer t.budget) t.definitions t.accepts.definitions))
+  one_due BadWords Answered p q = let has = due_has q in absurd (p (asked_words has.0 has.1 has.2.definitions))
+  one_due (FileRefused f) BadWords (task, bytes, file, why) q = absurd (q (task, file.name, file.asked))
+  one_due (FileRefused f) (FileRefused g) (task, bytes, file, why) (task', bytes', file', why') =
+      let same = (one_file task task' bytes bytes' file file').1 in
+      ap (λ z. FileRefused z) (one_refusal bytes' g f why' (subst (λ text. RefusesFile text f) same why))
+  one_due (FileRefused f) (Broken bs rs) (task, bytes, file, why) (task', d, h, broken) = absurd (has_or_refused task' task d bytes f h file why)
+  one_due (FileRefused f) (TermRefused g) (task, bytes, file, why) t = absurd (has_or_refused (Answer t.budget) task t.definitions bytes f t.accepts.definitions file why)
+  one_due (FileRefused f) Answered (task, bytes, file, why) q = let has = due_has q in absurd (has_or_refused has.0 task has.1 bytes f has.2.definitions file why)
+  one_due (Broken bs rs) BadWords (task, d, h, broken) q = absurd (q (asked_words task d h))
+  one_due (Broken bs rs) (FileRefused g) (task, d, h, broken) (task', bytes, file, why) = absurd (has_or_refused task task' d bytes g h file why)
+  one_due (Broken bs rs) (Broken cs ss) (task, d, h, one) (task', e, k, two) = let same = one_broken task' task e d cs bs ss rs k h two one in λ i. Broken (same.0 i) (same.1 i)
+  one_due (Broken bs rs) (TermRefused g) (task, d, h, broken) t = absurd (accepts_or_broken (Answer t.budget) task t.definitions d bs rs t.accepts h broken)
+  one_due (Broken bs rs) Answered (task, d, h, broken) q = let has = due_has q in absurd (accepts_or_broken has.0 task has.1 d bs rs has.2 h broken)
+  one_due (TermRefused f) BadWords t q = absurd (q (asked_words (Answer t.budget) t.definitions t.accepts.definitions))
+  one_due (TermRefused f) (FileRefused g) t (task, bytes, file, why) = absurd (has_or_refused (Answer t.budget) task t.definitions bytes g t.accepts.definitions file why)
+  one_due (TermRefused f) (Broken bs rs) t (task, d, h, broken) = absurd (accepts_or_broken (Answer t.budget) task t.definitions d bs rs t.accepts h broken)
+  one_due (TermRefused f) (TermRefused g) t u = ap (λ z. TermRefused z) (one_term_fault (Answer u.budget) (Answer t.budget) u.definitions u.grown t.definitions t.grown u.accepts t.accepts u.grows t.grows g f u.refused t.refused)
+  one_due (TermRefused f) Answered t q = absurd (due_not_refused q f t)
+  one_due Answered BadWords p q = let has = due_has p in absurd (q (asked_words has.0 has.1 has.2.definitions))
+  one_due Answered (FileRefused g) p (task, bytes, file, why) = let has = due_has p in absurd (has_or_refused has.0 task has.1 bytes g has.2.definitions file why)
+  one_due Answered (Broken bs rs) p (task, d, h, broken) = let has = due_has p in absurd (accepts_or_broken has.0 task has.1 d bs rs has.2 h broken)
+  one_due Answered (TermRefused g) p t = absurd (due_not_refused p g t)
+  one_due Answered Answered p q = inl refl
+  one_due Questions outcome p q = absurd p
+  one_due (Stopped stop) outcome p q = absurd p
+  one_due due Questions p q = absurd q
+  one_due due (Stopped stop) p q = absurd q
+
+  -- ---- what a run leaves, that came to an outcome
+
+  -- the outcome is due, or the run stopped
+  pub due_left : (left : Option (List ℕ)) (outcome : Outcome) (written : List ℕ) → Leaves given left outcome written → ((stop : Stop) → outcome ≡ Stopped stop → ⊥) → (due : Outcome) → IsDue given due → AnswersDue due outcome
+  due_left left BadWords written l goes_on due is = one_due due BadWords is l.0
+  due_left left (FileRefused f) written l goes_on due is = one_due due (FileRefused f) is l.0
+  due_left left (Broken bs rs) written l goes_on due is = one_due due (Broken bs rs) is l.0
+  due_left left (TermRefused f) written (inl a) goes_on due is =
+      one_due due (TermRefused f) is (record { budget = a.budget; definitions = a.definitions; grown = a.grown; accepts = a.accepts; grows = a.grows; refused = a.answered.0 })
+  due_left left (TermRefused f) written (inr (inl c)) goes_on due is = absurd c.told
+  due_left left (TermRefused f) written (inr (inr s)) goes_on due is = absurd s.0
+  due_left left Answered written (inl a) goes_on due is =
+      one_due due Answered is (inl (record { budget = a.budget; definitions = a.definitions; grown = a.grown; accepts = a.accepts; grows = a.grows; short = a.answered.1; terms = a.answered.2.1.terms; holds = a.answered.2.1.reads }))
+  due_left left Answered written (inr (inl c)) goes_on due is = one_due due Answered is (inr (c.definitions, c.accepts))
+  due_left left Answered written (inr (inr s)) goes_on due is = absurd s.0
+  due_left left Questions written (inl a) goes_on due is =
+      questions due (one_due due Answered is (inl (record { budget = a.budget; definitions = a.definitions; grown = a.grown; accepts = a.accepts; grows = a.grows; short = a.answered.1; terms = a.answered.2.1.answers.terms; holds = a.answered.2.1.answers.reads })))
+    where
+      -- where all terms can be answered, some may be by `? spent`
+      questions : (due : Outcome) → AnswersDue due Answered → AnswersDue due Questions
+      questions Answered p = inr refl
+      questions Questions p = cc
+      questions BadWords p = cc
+      questions (FileRefused f) p = cc
+      questions (Broken bs rs) p = cc
+      questions (TermRefused f) p = cc
+      questions (Stopped stop) p = cc
+  due_left left Questions written (inr (inl c)) goes_on due is = absurd c.told
+  due_left left Questions written (inr (inr s)) goes_on due is = absurd s.0
+  due_left left (Stopped stop) written l goes_on due is = absurd (goes_on stop refl)

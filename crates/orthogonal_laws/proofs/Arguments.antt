@@ -1,0 +1,28 @@
+-- The arguments of a node, by their numbers.
+use Rattle.std.proofs.Common.{◌≡◌, ℕ, zero, suc, ◌+◌, ◌<◌, ◌≤◌, Some, [], ◌∷◌, refl, arith}
+use Rattle.eq_base.specs.Tree.{Tree, Forest, node, empty, grow, args_of, arity_of, count, size, total_size, subtree_at, number}
+use Rattle.eq_base.specs.Storing.{first_trees}
+use Rattle.orthogonal_laws.proofs.Numbers.{number_first}
+
+module _ {A : Type 0} where
+  all_first : (ts : Forest A) (n : ℕ) → count ts ≤ n → total_size (first_trees n ts) ≡ total_size ts
+  all_first empty zero le = refl
+  all_first empty (suc n) le = refl
+  all_first (grow t ts) zero le = absurd (omega arith)
+  all_first (grow t ts) (suc n) le = omega (arith, all_first ts n (omega arith))
+
+  -- what has nodes below it has an argument
+  pub some_argument : (t : Tree A) → 1 < size t → 0 < arity_of t
+  some_argument (node a empty) lt = absurd (omega arith)
+  some_argument (node a (grow t ts)) lt = omega arith
+
+  -- where the first arguments are not all, there is one more
+  pub not_last : (t : Tree A) (n : ℕ) → 1 + total_size (first_trees n (args_of t)) < size t → n < arity_of t
+  not_last (node a args) n lt = less_or (λ le. let z = all_first args n le in omega (arith, z))
+    where
+      less_or : (count args ≤ n → ⊥) → n < count args
+      less_or none = grind arith
+
+  -- the number of the position of an argument
+  pub place_of : (t : Tree A) (i : ℕ) (s : Tree A) → subtree_at t (i ∷ []) ≡ Some s → number t (i ∷ []) ≡ 1 + total_size (first_trees i (args_of t))
+  place_of (node a args) i s e = omega (arith, number_first args i s e)

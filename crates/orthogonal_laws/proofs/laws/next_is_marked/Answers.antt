@@ -1,0 +1,5 @@
+use Rattle.orthogonal_laws.proofs.NextLaws as laws
+use Rattle.orthogonal_laws.proofs.laws.next_is_marked.Goals as goal
+
+pub returns : goal.returns
+returns g c = λ system w o. laws.next_is_marked system w o

@@ -1,0 +1,5 @@
+use Rattle.orthogonal_laws.proofs.NextLaws as laws
+use Rattle.orthogonal_laws.proofs.laws.part_without_demand.Goals as goal
+
+pub returns : goal.returns
+returns g c = λ system w o. laws.part_without_demand system w o

@@ -1,0 +1,5 @@
+Symbols h: 1; include integer_numerals.
+For all n:
+  h(n) = 1 where n is in integer_numerals end where;
+  h(0) = 2;
+  h(0) = 2.

@@ -1,0 +1,4 @@
+Symbols or: 2; include truth_values.
+For all x:
+  or(true, x) = true;
+  or(x, true) = true.
