@@ -1,34 +1,32 @@
--- What a term means it means still when atoms and texts have joined the table.
-use Rattle.std.proofs.Common.{ℕ, List, [], ◌∷◌, refl}
-use Rattle.eq_base.specs.Tree.{Tree, Forest, node, empty, grow, count}
+-- What is known, and what a term means, while atoms and texts join the table.
+use Rattle.std.proofs.Common.{◌≡◌, ℕ, List, ap, sym, subst}
+use Rattle.eq_base.specs.Tree.{Tree}
 use Rattle.eq_base.specs.Pattern.{PatternCell}
 use Rattle.eq_base.specs.declared.head.Head.{Head}
-use Rattle.term_lex.specs.Lexemes.{Lexeme}
-use Rattle.symbol_table.specs.Table.{Table, Keeps}
-use Rattle.standmath.specs.Meaning.{MeansCell, MeansTree, MeanTrees, outline}
+use Rattle.eq_base.specs.declared.rules.Op.{Op}
+use Rattle.symbol_table.specs.Table.{Table, Keeps, names_of}
+use Rattle.symbol_table.specs.Reading.{read_pattern, IsLivePattern}
+use Rattle.symbol_table.proofs.Keeping.{keeps_trans, names_kept}
+use Rattle.symbol_table.proofs.Rereading.{pattern_kept, live_pattern_kept}
 use Rattle.standmath.specs.Reading.{ReadsPattern}
-use Rattle.standmath.proofs.Keeping.{still_mean}
+use Rattle.def_file.specs.Naming.{knowing}
+use Rattle.def_file.specs.Taking.{IsTaken}
 
-module _ (old new : Table) (k : Keeps old new) (variables : List (List ℕ)) where
-  still_cell : (x : Lexeme) (args : ℕ) (c : PatternCell Head) → MeansCell old variables x args c → MeansCell new variables x args c
-  still_cell x args c is = (still_mean old new k variables ((x, args) ∷ []) ((c, args) ∷ []) (is, refl, tt)).0
+-- what is known stays
+pub knowing_kept : (old new : Table) → Keeps old new → (variables : List (List ℕ)) (operations : List Op)
+    → knowing new variables operations ≡ knowing old variables operations
+knowing_kept old new k variables operations =
+    ap (λ names. record { table = names; variables = variables; operations = operations }) (names_kept old new k)
 
-  mutual
-    still_tree : (t : Tree Lexeme) (p : Tree (PatternCell Head)) → MeansTree old variables t p → MeansTree new variables t p
-    still_tree (node x args) (node c ps) (here, others) = (still_cell x (count args) c here, still_trees args ps others)
-
-    still_trees : (ts : Forest Lexeme) (ps : Forest (PatternCell Head)) → MeanTrees old variables ts ps → MeanTrees new variables ts ps
-    still_trees empty empty is = tt
-    still_trees empty (grow p ps) is = absurd is
-    still_trees (grow t ts) empty is = absurd is
-    still_trees (grow t ts) (grow p ps) (here, others) = (still_tree t p here, still_trees ts ps others)
-
-  -- a reading in a table is one in a table that keeps it
-  pub still_reads : (text : List ℕ) (at : ℕ) (p : Tree (PatternCell Head)) (end : ℕ) → ReadsPattern old variables text at p end → ReadsPattern new variables text at p end
-  still_reads text at p end r = record {
-    written = r.written;
-    lexemes = r.lexemes;
-    reads = r.reads;
-    spelled = r.spelled;
-    means = still_tree (outline r.written) p r.means;
-  }
+-- a pattern that was read is read so in each table that keeps this one
+pub taken_later : (text : List ℕ) (variables : List (List ℕ)) (operations : List Op) (old new later : Table)
+    → Keeps old new → Keeps new later → (byte : ℕ) (p : Tree (PatternCell Head)) (end : ℕ)
+    → ReadsPattern (names_of old) variables text byte (read_pattern new p) end → IsLivePattern new p
+    → IsTaken text (knowing later variables operations) later byte p
+taken_later text variables operations old new later k l byte p end reads live =
+    let named = subst (λ (names : Table). ReadsPattern names variables text byte (read_pattern new p) end)
+    (sym (names_kept old later (keeps_trans old new later k l))) reads in
+    record {
+      means = (end, subst (λ q. ReadsPattern (names_of later) variables text byte q end) (sym (pattern_kept new later l p live)) named);
+      live = live_pattern_kept new later l p live;
+    }

@@ -13,7 +13,6 @@ pub mod Lasting
 pub mod Limits
 pub mod Classes
 pub mod Meant
-pub mod Alike
 pub mod OneFile
 pub mod OneNaming
 pub mod OneFault

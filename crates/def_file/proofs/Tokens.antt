@@ -12,9 +12,9 @@ use Rattle.term_lex.proofs.Readings.{lexeme_found, one_lexeme, no_lexeme}
 use Rattle.term_lex.proofs.PlainAnswers.{kind_ok, kind_bad, kind_misplaced, word_ok, word_bad, word_misplaced, answer_within}
 use Rattle.term_lex.proofs.ListAnswers.{same_answer}
 use Rattle.standmath.specs.Terms.{IsSomeTerm}
-use Rattle.standmath.specs.Answering as terms
-use Rattle.standmath.specs.declared.error.ReadError.{ReadError}
-use Rattle.standmath.specs.declared.error.ReadError.TheVariants.{Refused, NoMemory}
+use Rattle.written_terms.specs.Answering as terms
+use Rattle.written_terms.specs.declared.error.ReadError.{ReadError}
+use Rattle.written_terms.specs.declared.error.ReadError.TheVariants.{Refused, NoMemory}
 use Rattle.standmath.proofs.Terms.{term_part}
 use Rattle.def_file.specs.Errors.{of_read}
 use Rattle.def_file.specs.Grammar.{IsToken, IsWordAs, IsTermFrom}

@@ -4,7 +4,7 @@ use Rattle.std.specs.List.{flat_map}
 use Rattle.eq_base.specs.Tree.{Tree, map_heads}
 use Rattle.eq_base.specs.Pattern.{PatternCell, variable, restricted}
 use Rattle.eq_base.specs.Meeting.{class_number}
-use Rattle.eq_base.specs.declared.head.Head.{Head}
+use Rattle.eq_base.specs.ReadHead.{ReadHead}
 use Rattle.eq_base.specs.declared.meeting.SymbolClass.{SymbolClass}
 use Rattle.eq_base.specs.declared.rules.Op.{Op}
 use Rattle.term_lex.specs.declared.token.Token.{Token}
@@ -12,11 +12,7 @@ use Rattle.term_lex.specs.declared.fault.Fault.{Fault}
 use Rattle.term_lex.specs.declared.fault.FaultKind.TheVariants.{FileLong}
 use Rattle.term_lex.specs.Lexemes.{IsFirstFault, Plainly}
 use Rattle.symbol_table.specs.Table.{class_name}
-use Rattle.def_file.specs.declared.definitions.Qualifier.{Qualifier}
-use Rattle.def_file.specs.declared.definitions.Written.{Written}
-use Rattle.def_file.specs.declared.definitions.Item.TheVariants as item
-use Rattle.def_file.specs.declared.definitions.Numbered.{Numbered}
-use Rattle.def_file.specs.declared.definitions.Definitions.{Definitions}
+use Rattle.def_file.specs.AsRead.{ReadQualifier, ReadEquation, Equation, Class, ReadNumbered, ReadDefinitions}
 use Rattle.def_file.specs.Trees.{Restriction, InClass, OneOf, Condition, Sides, EquationItem, Equates, IncludesOperations, File}
 use Rattle.def_file.specs.Pairs.{AreRelated}
 use Rattle.def_file.specs.Grammar.{IsSomeFile, IsFileText}
@@ -32,12 +28,12 @@ class_of [] x = None
 class_of (c ∷ cs) x = if c.0 == x then Some c.1 else class_of cs x
 
 -- a variable, restricted to its class if it has one
-abbrev pub restricted_to : ℕ → Option ℕ → PatternCell Head
+abbrev pub restricted_to : {H : Type 0} → ℕ → Option ℕ → PatternCell H
 restricted_to x (Some class) = restricted x class
 restricted_to x None = variable x
 
 -- the cell with its variable in its class
-abbrev pub classed : List (ℕ × ℕ) → PatternCell Head → PatternCell Head
+abbrev pub classed : {H : Type 0} → List (ℕ × ℕ) → PatternCell H → PatternCell H
 classed classes (variable x) = restricted_to x (class_of classes x)
 classed classes c = c
 
@@ -60,22 +56,22 @@ module _ (text : List ℕ) (known : Known) where
 
   module _ (classes : List (ℕ × ℕ)) where
     -- the term from the byte on is this pattern, in which variables stand with their classes
-    abbrev pub MeansSide : ℕ → Tree (PatternCell Head) → Type 0
-    MeansSide byte pattern = (plain : Tree (PatternCell Head)) × IsPattern text known byte plain × (pattern ≡ map_heads (classed classes) plain)
+    abbrev pub MeansSide : ℕ → Tree (PatternCell ReadHead) → Type 0
+    MeansSide byte pattern = (plain : Tree (PatternCell ReadHead)) × IsPattern text known byte plain × (pattern ≡ map_heads (classed classes) plain)
 
     -- what a variable may stand for: the alternatives, of which a class has none
-    abbrev pub MeanChoices : Restriction → List (Tree (PatternCell Head)) → Type 0
+    abbrev pub MeanChoices : Restriction → List (Tree (PatternCell ReadHead)) → Type 0
     MeanChoices (InClass name) patterns = patterns ≡ []
     MeanChoices (OneOf terms) patterns = AreRelated MeansSide terms patterns
 
     -- a written qualifier means this one
-    pub record MeansQualifier (c : Condition) (qualifier : Qualifier) : Type 0 where
+    pub record MeansQualifier (c : Condition) (qualifier : ReadQualifier) : Type 0 where
       pub variable : NamesVariable c.variable qualifier.variable
       pub choices : MeanChoices c.restriction qualifier.choices
       pub place : qualifier.byte ≡ c.variable.from
 
   -- written sides mean this equation
-  pub record MeansEquation (sides : Sides) (equation : Written) : Type 0 where
+  pub record MeansEquation (sides : Sides) (equation : ReadEquation) : Type 0 where
     pub classes : List (ℕ × ℕ)
     pub are_in : AreIn sides.conditions classes
     pub left : MeansSide classes sides.left equation.left
@@ -84,18 +80,18 @@ module _ (text : List ℕ) (known : Known) where
     pub place : equation.byte ≡ sides.left
 
   -- the name is that of an equation class, which the item with the number includes
-  abbrev pub MeansOperation : ℕ → Token → Numbered → Type 0
-  MeansOperation number name numbered = (op : Op) × (bytes_of text name ≡ operation_name op) × (numbered ≡ record { item = item.Class op name.from; number = number })
+  abbrev pub MeansOperation : ℕ → Token → ReadNumbered → Type 0
+  MeansOperation number name numbered = (op : Op) × (bytes_of text name ≡ operation_name op) × (numbered ≡ record { item = Class op name.from; number = number })
 
   -- the written item with the number means these items
-  abbrev pub MeansItem : ℕ → EquationItem → List Numbered → Type 0
-  MeansItem number (Equates sides) numbered = (equation : Written) × MeansEquation sides equation × (numbered ≡ record { item = item.Equation equation; number = number } ∷ [])
+  abbrev pub MeansItem : ℕ → EquationItem → List ReadNumbered → Type 0
+  MeansItem number (Equates sides) numbered = (equation : ReadEquation) × MeansEquation sides equation × (numbered ≡ record { item = Equation equation; number = number } ∷ [])
   MeansItem number (IncludesOperations include names) numbered = AreRelated (MeansOperation number) names numbered
 
   -- the written items from the number on mean these items
-  abbrev pub MeanItems : ℕ → List EquationItem → List Numbered → Type 0
+  abbrev pub MeanItems : ℕ → List EquationItem → List ReadNumbered → Type 0
   MeanItems number [] numbered = numbered ≡ []
-  MeanItems number (i ∷ is) numbered = (front : List Numbered) × (back : List Numbered) × (numbered ≡ front ++ back) × MeansItem number i front × MeanItems (number + 1) is back
+  MeanItems number (i ∷ is) numbered = (front : List ReadNumbered) × (back : List ReadNumbered) × (numbered ≡ front ++ back) × MeansItem number i front × MeanItems (number + 1) is back
 
 -- ---- the phases
 
@@ -108,14 +104,14 @@ abbrev pub equations_of : File → List Sides
 equations_of file = flat_map equation_of file.items
 
 -- the file has no fault, and says these definitions
-pub record Says (text : List ℕ) (definitions : Definitions) : Type 0 where
+pub record Says (text : List ℕ) (definitions : ReadDefinitions) : Type 0 where
   pub short : length text ≤ most_bytes
   pub file : File
   pub reads : IsFileText text file
   pub known : Known
   pub names : TakesAll text nothing_known (places_of file) known
   pub limits : KeepsAll text known (all_limits 0 (equations_of file))
-  pub symbols : definitions.symbols ≡ known.table
+  pub declared : definitions.names ≡ known.table
   pub variables : definitions.variables ≡ known.variables
   pub items : MeanItems text known 1 file.items definitions.items
 
@@ -140,6 +136,6 @@ IsFileFault text fault =
     ⊎ ((length text ≤ most_bytes) × (IsFirstFault Plainly IsSomeFile text 0 fault ⊎ (HasNameFault text fault ⊎ HasSideFault text fault)))
 
 -- what reading a file answers
-abbrev pub IsDefinitions : List ℕ → Result Definitions Fault → Type 0
+abbrev pub IsDefinitions : List ℕ → Result ReadDefinitions Fault → Type 0
 IsDefinitions text (Ok definitions) = Says text definitions
 IsDefinitions text (Err fault) = IsFileFault text fault

@@ -1,10 +1,10 @@
 -- The errors of a file's reader, and what it answers where memory may have run out.
-use Rattle.std.specs.Prelude.{ℕ, Result, Ok, Err}
+use Rattle.std.specs.Prelude.{◌≡◌, ℕ, Result, Ok, Err}
 use Rattle.term_lex.specs.declared.token.Token.{Token}
 use Rattle.term_lex.specs.declared.fault.FaultKind.TheVariants.{Twice}
 use Rattle.term_lex.specs.declared.fault.Fault.{Fault}
-use Rattle.standmath.specs.declared.error.ReadError.{ReadError}
-use Rattle.standmath.specs.declared.error.ReadError.TheVariants as read
+use Rattle.written_terms.specs.declared.error.ReadError.{ReadError}
+use Rattle.written_terms.specs.declared.error.ReadError.TheVariants as read
 use Rattle.symbol_table.specs.declared.error.SymbolError.{SymbolError}
 use Rattle.symbol_table.specs.declared.error.SymbolError.TheVariants as symbol
 use Rattle.def_file.specs.declared.error.FileError.{FileError}
@@ -24,6 +24,11 @@ IfRefused P NoMemory = Unit {0}
 abbrev pub AnswersRight : {A : Type 0} → (Result A Fault → Type 0) → Result A FileError → Type 0
 AnswersRight IsRight (Ok x) = IsRight (Ok x)
 AnswersRight IsRight (Err e) = IfRefused (λ fault. IsRight (Err fault)) e
+
+-- the answer is this one, unless memory ran out
+abbrev pub AnswersAs : {A : Type 0} → Result A Fault → Result A FileError → Type 0
+AnswersAs answer (Ok x) = answer ≡ Ok x
+AnswersAs answer (Err e) = IfRefused (λ fault. answer ≡ Err fault) e
 
 -- the error of a name that is refused, which stands at the byte
 abbrev pub refused_at : SymbolError → ℕ → FileError

@@ -7,8 +7,8 @@ pub mod Operations
 pub mod Names
 pub mod Naming
 pub mod Sides
+pub mod AsRead
 pub mod Definitions
-pub mod Alike
 pub mod Unbuilt
 pub mod Pairs
 pub mod Taking

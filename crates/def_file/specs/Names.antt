@@ -3,7 +3,7 @@ use Rattle.std.specs.Prelude.{◌≡◌, ◌≢◌, ℕ, ◌⊎◌, List, [], �
 use Rattle.std.specs.List.{flat_map}
 use Rattle.eq_base.specs.Tree.{Tree}
 use Rattle.eq_base.specs.Pattern.{PatternCell}
-use Rattle.eq_base.specs.declared.head.Head.{Head}
+use Rattle.eq_base.specs.ReadHead.{ReadHead}
 use Rattle.eq_base.specs.declared.meeting.SymbolClass.{SymbolClass}
 use Rattle.eq_base.specs.declared.rules.Op.{Op}
 use Rattle.term_lex.specs.declared.token.Token.{Token}
@@ -11,7 +11,7 @@ use Rattle.term_lex.specs.declared.fault.Fault.{Fault}
 use Rattle.term_lex.specs.declared.fault.FaultKind.{FaultKind}
 use Rattle.term_lex.specs.declared.fault.FaultKind.TheVariants.{Twice, ArityPast, UnknownClass, NotIncluded, UnknownEquationClass, QualifiedUnknown, QualifiedTwice, SchemaNeeds}
 use Rattle.term_lex.specs.Values.{numeral_value}
-use Rattle.symbol_table.specs.Table.{Table, no_names, Keeps, Declares, AddsClass, Includes, class_name}
+use Rattle.symbol_table.specs.Table.{Table, no_names, Declares, AddsClass, Includes, class_name}
 use Rattle.symbol_table.specs.Variables.{AddsVariable}
 use Rattle.symbol_table.specs.Refusing.{RefusesDeclaration, RefusesInclude, RefusesVariable}
 use Rattle.standmath.specs.Reading.{ReadsPattern}
@@ -61,7 +61,7 @@ places_of file = flat_map symbol_places file.symbols ++ map Variable file.variab
 
 -- ---- what is known of names
 
--- the symbols, the variables and the equation classes that were met
+-- the symbols and classes, the variables and the equation classes that were met; the table has no atoms and no texts
 pub record Known : Type 0 where
   pub table : Table
   pub variables : List (List ℕ)
@@ -82,7 +82,8 @@ module _ (text : List ℕ) where
   Takes old (Class name) new = AddsClass old.table new.table (bytes_of name) × (new ≡ record old { table = new.table })
   Takes old (Variable name) new = AddsVariable old.table old.variables new.variables (bytes_of name) × (new ≡ record old { variables = new.variables })
   Takes old (Term byte) new =
-      (pattern : Tree (PatternCell Head)) × (end : ℕ) × ReadsPattern new.table old.variables text byte pattern end × Keeps old.table new.table × (new ≡ record old { table = new.table })
+      (pattern : Tree (PatternCell ReadHead)) × (end : ℕ)
+      × ReadsPattern old.table old.variables text byte pattern end × (new ≡ old)
   Takes old (Qualified before name) new = Contains old.variables (bytes_of name) × (¬ Contains (map bytes_of before) (bytes_of name)) × (new ≡ old)
   Takes old (ClassOf name) new = (class : SymbolClass) × (bytes_of name ≡ class_name class) × Includes old.table class × (new ≡ old)
   Takes old (Operation name) new =
@@ -113,12 +114,12 @@ module _ (text : List ℕ) where
   RefusesOperation known name SchemaNeeds = (op : Op) × (name ≡ operation_name op) × (¬ Contains known.operations op) × (¬ HasNeeds known.table op)
   RefusesOperation known name kind = ⊥
 
-  -- what is at the place is this fault; atoms and texts may join the table while a term is read
+  -- what is at the place is this fault
   abbrev pub Refuses : Known → Place → Fault → Type 0
   Refuses known (Symbol name arity) fault = RefusesSymbol known.table name arity fault
   Refuses known (Class name) fault = RefusesInclude known.table (bytes_of name) fault.kind × (fault.byte ≡ name.from)
   Refuses known (Variable name) fault = RefusesVariable known.table known.variables (bytes_of name) fault.kind × (fault.byte ≡ name.from)
-  Refuses known (Term byte) fault = (table : Table) × RefusesPattern table known.variables text byte fault × Keeps known.table table
+  Refuses known (Term byte) fault = RefusesPattern known.table known.variables text byte fault
   Refuses known (Qualified before name) fault = RefusesQualified known before (bytes_of name) fault.kind × (fault.byte ≡ name.from)
   Refuses known (ClassOf name) fault = RefusesClassOf known.table (bytes_of name) fault.kind × (fault.byte ≡ name.from)
   Refuses known (Operation name) fault = RefusesOperation known (bytes_of name) fault.kind × (fault.byte ≡ name.from)

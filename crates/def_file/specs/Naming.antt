@@ -4,7 +4,7 @@ use Rattle.std.specs.List.{AllByRecursion}
 use Rattle.eq_base.specs.declared.rules.Op.{Op}
 use Rattle.term_lex.specs.declared.token.Token.{Token}
 use Rattle.term_lex.specs.Values.{IsTokenOf, IsNumeralOf}
-use Rattle.symbol_table.specs.Table.{Table}
+use Rattle.symbol_table.specs.Table.{Table, names_of}
 use Rattle.def_file.specs.declared.error.FileError.{FileError}
 use Rattle.def_file.specs.declared.tree.Condition.{Condition}
 use Rattle.def_file.specs.declared.naming.Named.{Named}
@@ -12,6 +12,7 @@ use Rattle.def_file.specs.Trees.{File}
 use Rattle.def_file.specs.Grammar.{IsFileText}
 use Rattle.def_file.specs.Sides.{all_limits, AnswersLimits}
 use Rattle.def_file.specs.Definitions.{equations_of, MeanItems}
+use Rattle.def_file.specs.AsRead.{numbered_read, AreLiveItems}
 use Rattle.def_file.specs.Errors.{IfRefused}
 use Rattle.def_file.specs.Names.{Place, Symbol, Class, Variable, Term, Qualified, ClassOf, Operation, Known, nothing_known, places_of, TakesAll, RefusesFirst}
 
@@ -34,9 +35,9 @@ abbrev pub IsTaking : {A : Type 0} → List ℕ → Known → List Place → Kno
 IsTaking text old places new (Ok x) = TakesAll text old places new
 IsTaking text old places new (Err error) = IfRefused (RefusesFirst text old places) error
 
--- the symbols, the variables and the equation classes that are known
+-- what is known by a table of symbols, with variables and equation classes
 abbrev pub knowing : Table → List (List ℕ) → List Op → Known
-knowing table variables operations = record { table = table; variables = variables; operations = operations }
+knowing table variables operations = record { table = names_of table; variables = variables; operations = operations }
 
 -- the symbols are known, and nothing else
 abbrev pub only_symbols : Table → Known
@@ -64,5 +65,6 @@ pub record IsNamed (text : List ℕ) (file : File) (named : Named) : Type 0 wher
   pub short : length text ≤ 2 ^ 24
   pub reads : IsFileText text file
   pub names : TakesAll text nothing_known (places_of file) (known_of named)
-  pub items : MeanItems text (known_of named) 1 file.items named.taken.items.items
+  pub items : MeanItems text (known_of named) 1 file.items (map (numbered_read named.symbols) named.taken.items.items)
+  pub live : AreLiveItems named.symbols named.taken.items.items
   pub limits : AnswersLimits text (known_of named) (all_limits 0 (equations_of file)) named.taken.fault

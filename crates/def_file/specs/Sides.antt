@@ -3,8 +3,7 @@ use Rattle.std.specs.Prelude.{◌≡◌, ℕ, ◌+◌, ◌<◌, ◌≤◌, ◌�
 use Rattle.std.specs.List.{flat_map}
 use Rattle.eq_base.specs.Tree.{Tree, node, size}
 use Rattle.eq_base.specs.Pattern.{PatternCell, fixed}
-use Rattle.eq_base.specs.declared.head.Head.{Head}
-use Rattle.eq_base.specs.declared.head.Head.TheVariants.{Symbol}
+use Rattle.eq_base.specs.ReadHead.{ReadHead, symbol}
 use Rattle.term_lex.specs.declared.fault.Fault.{Fault}
 use Rattle.term_lex.specs.declared.fault.FaultKind.TheVariants.{EquationsPast, LeftNotApplication, SideLong}
 use Rattle.standmath.specs.Reading.{ReadsPattern}
@@ -43,26 +42,26 @@ all_limits before [] = []
 all_limits before (s ∷ ss) = limits_of before s ++ all_limits (before + 1) ss
 
 -- a symbol stands at the root
-abbrev pub IsApplication : Tree (PatternCell Head) → Type 0
-IsApplication (node (fixed (Symbol n)) args) = Unit {0}
+abbrev pub IsApplication : Tree (PatternCell ReadHead) → Type 0
+IsApplication (node (fixed (symbol n)) args) = Unit {0}
 IsApplication pattern = ⊥
 
 module _ (text : List ℕ) (known : Known) where
   -- the term from the byte on is this pattern
-  abbrev pub IsPattern : ℕ → Tree (PatternCell Head) → Type 0
+  abbrev pub IsPattern : ℕ → Tree (PatternCell ReadHead) → Type 0
   IsPattern byte pattern = (end : ℕ) × ReadsPattern known.table known.variables text byte pattern end
 
   -- the limit is kept
   abbrev pub Keeps : Limit → Type 0
   Keeps (Equations before byte) = before < 2048
-  Keeps (Application byte) = (pattern : Tree (PatternCell Head)) × IsPattern byte pattern × IsApplication pattern
-  Keeps (Cells most byte) = (pattern : Tree (PatternCell Head)) × IsPattern byte pattern × (size pattern ≤ most)
+  Keeps (Application byte) = (pattern : Tree (PatternCell ReadHead)) × IsPattern byte pattern × IsApplication pattern
+  Keeps (Cells most byte) = (pattern : Tree (PatternCell ReadHead)) × IsPattern byte pattern × (size pattern ≤ most)
 
   -- the limit is passed
   abbrev pub Passes : Limit → Fault → Type 0
   Passes (Equations before byte) fault = (2048 ≤ before) × (fault ≡ record { kind = EquationsPast; byte = byte })
-  Passes (Application byte) fault = (pattern : Tree (PatternCell Head)) × IsPattern byte pattern × (¬ IsApplication pattern) × (fault ≡ record { kind = LeftNotApplication; byte = byte })
-  Passes (Cells most byte) fault = (pattern : Tree (PatternCell Head)) × IsPattern byte pattern × (most < size pattern) × (fault ≡ record { kind = SideLong; byte = byte })
+  Passes (Application byte) fault = (pattern : Tree (PatternCell ReadHead)) × IsPattern byte pattern × (¬ IsApplication pattern) × (fault ≡ record { kind = LeftNotApplication; byte = byte })
+  Passes (Cells most byte) fault = (pattern : Tree (PatternCell ReadHead)) × IsPattern byte pattern × (most < size pattern) × (fault ≡ record { kind = SideLong; byte = byte })
 
   -- all limits are kept
   abbrev pub KeepsAll : List Limit → Type 0

@@ -1,14 +1,16 @@
 -- What is taken of the written equations, once their names are known.
 use Rattle.std.specs.Prelude.{◌≡◌, ℕ, ◌+◌, List, [], ◌∷◌, ◌++◌, map, Option, Some, None}
 use Rattle.std.specs.List.{flat_map}
-use Rattle.eq_base.specs.Tree.{Tree, map_heads}
-use Rattle.eq_base.specs.Pattern.{PatternCell}
+use Rattle.eq_base.specs.Tree.{Tree, node, map_heads}
+use Rattle.eq_base.specs.Pattern.{PatternCell, fixed}
 use Rattle.eq_base.specs.Meeting.{class_number}
 use Rattle.eq_base.specs.declared.head.Head.{Head}
+use Rattle.eq_base.specs.declared.head.Head.TheVariants.{Symbol}
 use Rattle.eq_base.specs.declared.rules.Op.{Op}
 use Rattle.term_lex.specs.declared.token.Token.{Token}
 use Rattle.term_lex.specs.declared.fault.Fault.{Fault}
 use Rattle.symbol_table.specs.Table.{Table, Keeps, class_name}
+use Rattle.symbol_table.specs.Reading.{read_pattern, IsLivePattern}
 use Rattle.def_file.specs.declared.naming.conditions.Choice.{Choice}
 use Rattle.def_file.specs.declared.naming.conditions.Choice.TheVariants as choice
 use Rattle.def_file.specs.declared.naming.conditions.TakenCondition.{TakenCondition}
@@ -19,6 +21,7 @@ use Rattle.def_file.specs.declared.definitions.Qualifier.{Qualifier}
 use Rattle.def_file.specs.declared.definitions.Written.{Written}
 use Rattle.def_file.specs.declared.definitions.Item.TheVariants as item
 use Rattle.def_file.specs.declared.definitions.Numbered.{Numbered}
+use Rattle.def_file.specs.AsRead.{equation_read, IsLiveWritten}
 use Rattle.def_file.specs.Pairs.{AreRelated}
 use Rattle.def_file.specs.Operations.{operation_name}
 use Rattle.def_file.specs.Trees.{Restriction, InClass, OneOf, Sides, EquationItem, Equates, IncludesOperations}
@@ -27,15 +30,21 @@ use Rattle.def_file.specs.Naming.{knowing}
 use Rattle.def_file.specs.Sides.{IsPattern, limits_of, AnswersLimits}
 use Rattle.def_file.specs.Definitions.{classed, NamesVariable, MeansEquation}
 
--- P of what is known, whatever atoms and texts join the table, and whatever equation classes are included
-abbrev pub Lasts : (Known → Type 0) → Table → List (List ℕ) → Type 0
-Lasts P table variables = (later : Table) → (operations : List Op) → Keeps table later → P (knowing later variables operations)
+-- P of what is known and of the table, whatever atoms and texts join it, and whatever equation classes are included
+abbrev pub Lasts : (Known → Table → Type 0) → Table → List (List ℕ) → Type 0
+Lasts P table variables =
+    (later : Table) (operations : List Op) → Keeps table later → P (knowing later variables operations) later
 
-module _ (text : List ℕ) (known : Known) where
+module _ (text : List ℕ) (known : Known) (table : Table) where
+  -- the term from the byte on is this pattern, as the table reads it, and each number in it is live
+  pub record IsTaken (byte : ℕ) (pattern : Tree (PatternCell Head)) : Type 0 where
+    pub means : IsPattern text known byte (read_pattern table pattern)
+    pub live : IsLivePattern table pattern
+
   -- what a variable may stand for: the class of that name, or the patterns of these terms
   abbrev pub TakesChoice : Restriction → Choice → Type 0
   TakesChoice (InClass name) (choice.InClass class) = bytes_of text name ≡ class_name class
-  TakesChoice (OneOf terms) (choice.OneOf patterns) = AreRelated (IsPattern text known) terms patterns.items
+  TakesChoice (OneOf terms) (choice.OneOf patterns) = AreRelated IsTaken terms patterns.items
   TakesChoice written taken = ⊥
 
   -- the variable of that name, and what it may stand for
@@ -46,15 +55,27 @@ module _ (text : List ℕ) (known : Known) where
 
   -- the two sides and the conditions
   pub record TakesEquation (sides : Sides) (taken : TakenEquation) : Type 0 where
-    pub left : IsPattern text known sides.left taken.left
-    pub right : IsPattern text known sides.right taken.right
+    pub left : IsTaken sides.left taken.left
+    pub right : IsTaken sides.right taken.right
     pub conditions : AreRelated (λ c t. TakesCondition c.variable c.restriction t) sides.conditions taken.conditions.items
 
-  -- an equation with the first limit that it passes, where so many stand before it, or equation classes with their first bytes
+  -- a written equation with the first limit that it passes, where so many stand before it
+  pub record TakesWritten (before : ℕ) (sides : Sides) (equation : Written) (fault : Option Fault) : Type 0 where
+    pub means : MeansEquation text known sides (equation_read table equation)
+    pub live : IsLiveWritten table equation
+    pub limits : AnswersLimits text known (limits_of before sides) fault
+
+  -- an equation with the first limit that it passes, or equation classes with their first bytes
   abbrev pub TakesItem : ℕ → EquationItem → TakenItem → Type 0
-  TakesItem before (Equates sides) (taken.Equates equation fault) = MeansEquation text known sides equation × AnswersLimits text known (limits_of before sides) fault
-  TakesItem before (IncludesOperations include names) (taken.Includes operations) = AreRelated (λ name o. (bytes_of text name ≡ operation_name o.0) × (o.1 ≡ name.from)) names operations.items
+  TakesItem before (Equates sides) (taken.Equates equation fault) = TakesWritten before sides equation fault
+  TakesItem before (IncludesOperations include names) (taken.Includes operations) =
+      AreRelated (λ name o. (bytes_of text name ≡ operation_name o.0) × (o.1 ≡ name.from)) names operations.items
   TakesItem before written taken = ⊥
+
+-- a symbol stands at the root, by its number
+abbrev pub HasSymbolRoot : Tree (PatternCell Head) → Type 0
+HasSymbolRoot (node (fixed (Symbol n)) args) = Unit {0}
+HasSymbolRoot pattern = ⊥
 
 -- ---- variables in classes
 

@@ -174,6 +174,13 @@ impl Items {
         Items { list }
     }
 
+    /// The number of items.
+    pub fn len(&self) -> usize
+        ensures { result ≡ length self.now }
+    {
+        self.list.len()
+    }
+
     /// The items as a vector, of which nothing is copied.
     pub fn into_list(self) -> Vec<Numbered>
         ensures { result.items ≡ self }

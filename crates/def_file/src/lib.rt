@@ -13,6 +13,7 @@ pub use definitions::{
     Choices, Definitions, Item, Items, Numbered, Qualifier, Qualifiers, Written,
 };
 pub use error::FileError;
+pub use naming::symbol_of;
 pub use phases::{read_definitions, unbuilt_at};
 
 #[cfg(test)]

@@ -1,10 +1,11 @@
 // The names of a file: what it declares, and whether each name is used as it is declared.
-ghost use Rattle.std.specs.Prelude.{◌≡◌, ◌≤◌, ◌^◌, [], length, IfOk};
+ghost use Rattle.std.specs.Prelude.{◌≡◌, ◌≤◌, ◌^◌, [], length, map, IfOk};
 ghost use Rattle.def_file.specs.Views.{file};
 ghost use Rattle.def_file.specs.Grammar.{IsFileText};
 ghost use Rattle.def_file.specs.Names.{nothing_known, places_of};
 ghost use Rattle.def_file.specs.Naming.{IsNaming, known_of};
 ghost use Rattle.def_file.specs.Sides.{all_limits, AnswersLimits};
+ghost use Rattle.def_file.specs.AsRead.{numbered_read, AreLiveItems};
 ghost use Rattle.def_file.specs.Definitions.{MeanItems, equations_of};
 
 mod classes;
@@ -21,6 +22,7 @@ use crate::error::FileError;
 use crate::tree::File;
 use eq_base::Op;
 use items::{Taken, take_items};
+pub use operations::symbol_of;
 use std::alloc::Global;
 use symbol_table::{Symbols, Variables};
 use symbols::take_symbols;
@@ -44,7 +46,8 @@ pub fn take_names(alloc: Global, text: &[u8], written: &File) -> Result<Named, F
     requires short { length text.now ≤ 2 ^ 24 }
     requires reads { IsFileText text.now (file written.now) }
     ensures naming { IsNaming text.now (file written.now) result }
-    ensures items { IfOk result (λ named. MeanItems text.now (known_of named) 1 (file written.now).items named.taken.items.items) }
+    ensures items { IfOk result (λ named. MeanItems text.now (known_of named) 1 (file written.now).items (map (numbered_read named.symbols) named.taken.items.items)) }
+    ensures live { IfOk result (λ named. AreLiveItems named.symbols named.taken.items.items) }
     ensures limits { IfOk result (λ named. AnswersLimits text.now (known_of named) (all_limits 0 (equations_of (file written.now))) named.taken.fault) }
 {
     let mut symbols = Symbols::new(alloc);

@@ -4,11 +4,10 @@ ghost use Rattle.def_file.specs.Trees.{File as WrittenFile};
 ghost use Rattle.def_file.specs.Grammar.{IsFileText};
 ghost use Rattle.def_file.specs.Unbuilt.{unbuilt_of};
 ghost use Rattle.def_file.specs.Views.{file};
-ghost use Rattle.def_file.specs.Errors.{IfRefused, AnswersRight};
+ghost use Rattle.def_file.specs.Errors.{IfRefused, AnswersRight, AnswersAs};
 ghost use Rattle.def_file.specs.Definitions.{IsFileFault, IsDefinitions};
 ghost use Rattle.def_file.specs.Naming.{IsNamed};
-ghost use Rattle.def_file.specs.Alike.{AnswersAlike};
-ghost use Rattle.def_file.specs.declared.definitions.Definitions.{Definitions as DefinitionsValue};
+ghost use Rattle.def_file.specs.AsRead.{ReadDefinitions, answer_read, AreLiveItems};
 ghost use Rattle.term_lex.specs.declared.fault.Fault.{Fault as FaultValue};
 
 use crate::definitions::{Definitions, Items};
@@ -51,7 +50,8 @@ pub fn read_named(alloc: Global, text: &[u8]) -> Result<(File, Named), FileError
 
 /// The definitions that a text gives, or its first fault.
 fn definitions_in(alloc: Global, text: &[u8], syntax: Syntax) -> Result<Definitions, FileError>
-    ensures { AnswersRight (IsDefinitions text.now) result }
+    ensures answer { AnswersRight (IsDefinitions text.now) (answer_read result) }
+    ensures live { IfOk result (λ d. AreLiveItems d.symbols d.items) }
 {
     let Syntax::Standmath = syntax;
     let (_, named) = read_named(alloc, text)?;
@@ -65,7 +65,7 @@ fn definitions_in(alloc: Global, text: &[u8], syntax: Syntax) -> Result<Definiti
     })
 }
 
-/// The definitions that a text gives, its terms in the notation. No other answer is right, but for the numbers of atoms and texts.
+/// The definitions that a text gives, its terms in the notation. No other answer is right.
 ///
 /// Linear time in the text, but for the qualifiers of an equation, which are compared with each other and with its
 /// variables; memory for the file and its definitions.
@@ -78,8 +78,10 @@ pub fn read_definitions(
     text: &[u8],
     syntax: Syntax,
 ) -> Result<Definitions, FileError>
-    ensures answer { AnswersRight (IsDefinitions text.now) result }
-    ensures only { (other : Result DefinitionsValue FaultValue) → IsDefinitions text.now other → AnswersAlike other result }
+    ensures answer { AnswersRight (IsDefinitions text.now) (answer_read result) }
+    ensures only { (other : Result ReadDefinitions FaultValue) → IsDefinitions text.now other
+        → AnswersAs other (answer_read result) }
+    ensures live { IfOk result (λ d. AreLiveItems d.symbols d.items) }
 {
     definitions_in(alloc, text, syntax)
 }

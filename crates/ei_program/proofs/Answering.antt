@@ -2,6 +2,7 @@
 use Rattle.std.proofs.Common.{◌≡◌, ◌<◌, length, ℕ, List, [], ◌∷◌, refl, sym, ◌∙◌, append-nil, inl, inr, arith}
 use Rattle.eq_base.specs.Tree.{Tree, node, subtrees}
 use Rattle.eq_base.specs.View.{tree_at}
+use Rattle.eq_base.specs.ReadHead.{ReadHead}
 use Rattle.eq_base.specs.declared.head.Head.{Head}
 use Rattle.ei_program.specs.declared.stop.Stop.TheVariants.{NoMemory, ReadFailed, WriteFailed}
 use Rattle.ei_program.specs.declared.outcome.Outcome.{Outcome}
@@ -20,7 +21,7 @@ pub some_node : (t : Tree Head) → 0 < length (subtrees t)
 some_node (node h args) = omega arith
 
 -- what the line of the one term leaves is what its text leaves
-pub line_is_text : (budget : ℕ) (d : Definitions) (text : List ℕ) (t : Tree Head) (outcome : Outcome) (written : List ℕ) → Holds d.table text (t ∷ []) → LineLeft budget d t outcome written → TextLeft budget d text outcome written
+pub line_is_text : (budget : ℕ) (d : Definitions) (text : List ℕ) (t : Tree ReadHead) (outcome : Outcome) (written : List ℕ) → Holds d.names text (t ∷ []) → LineLeft budget d t outcome written → TextLeft budget d text outcome written
 line_is_text budget d text t Answered written h l =
     (l.0 ∷ [], record { terms = t ∷ []; reads = h; fit = (l.1, tt) }, l.2 ∙ sym (append-nil (ended l.0)))
 line_is_text budget d text t Questions written h l =

@@ -1,25 +1,35 @@
 -- The answers of plain runs: the only normal form, or that the budget is spent.
-use Rattle.std.proofs.Common.{◌≤◌, ℕ, ◌++◌, refl}
+use Rattle.std.proofs.Common.{◌≡◌, ◌≤◌, ℕ, ◌++◌, refl, sym, subst}
 use Rattle.std.specs.Prelude.{codes, decimal}
 use Rattle.eq_base.specs.Tree.{Tree}
-use Rattle.eq_base.specs.Rewriting.{IsNormal}
+use Rattle.eq_base.specs.Rewriting.{System, IsNormal}
 use Rattle.eq_base.specs.declared.head.Head.{Head}
+use Rattle.symbol_table.specs.Table.{Table, HasOneNumberEach}
+use Rattle.symbol_table.specs.Reading.{read, read_system}
+use Rattle.eq_base.specs.ReadHead.{ReadHead}
 use Rattle.standmath.specs.Printing.{print}
+use Rattle.orthogonal_laws.specs.Orthogonal.{IsLawful}
 use Rattle.orthogonal_laws.specs.Strategy.{PlainRun, HasLength}
+use Rattle.orthogonal_laws.specs.Run.{IsNormalEnd, IsSpentEnd, IsEnd}
+use Rattle.orthogonal_laws.specs.declared.run.PlainEnd.{PlainEnd}
+use Rattle.orthogonal_laws.specs.declared.run.PlainEnd.TheVariants.{Normal, Spent}
+use Rattle.orthogonal_laws.proofs.ReadSystems.{read_lawful}
 use Rattle.orthogonal_laws.proofs.PlainRuns.{run-derivation}
-use Rattle.orthogonal_laws.proofs.PlainRegular.{well_formed, orthogonal}
 use Rattle.orthogonal_laws.proofs.RunLaws.{run_found, one_end, spent_right}
-use Rattle.ei_program.specs.Definitions.{Definitions, system, IsAccepted}
+use Rattle.ei_program.specs.declared.loading.Loaded.{Loaded}
+use Rattle.ei_program.specs.Definitions.{Definitions, system, definitions_of}
+use Rattle.ei_program.specs.Loading.{IsReady}
 use Rattle.ei_program.specs.Lines.{IsNormalForm, IsSpent}
+use Rattle.ei_program.proofs.Holding.{system-held}
 
-module _ (d : Definitions) (accepted : IsAccepted d) (budget : ℕ) (t : Tree Head) where
+module _ (d : Definitions) (lawful : IsLawful (system d)) (budget : ℕ) (t : Tree ReadHead) where
   -- a plain run that ends within the budget ends in the only normal form
-  pub normal_form : (form : Tree Head) (steps : ℕ) → HasLength (system d) t steps form → steps ≤ budget → IsNormalForm budget d t (print d.table form)
+  pub normal_form : (form : Tree ReadHead) (steps : ℕ) → HasLength (system d) t steps form → steps ≤ budget → IsNormalForm budget d t (print d.names form)
   normal_form form steps length within = record {
     form = form;
     derivable = (steps, run-derivation length.run);
     normal = length.normal;
-    only = λ other derivable is_normal. one_end (system d) (well_formed d.equations accepted.regular) (orthogonal d.equations accepted.regular) t other form derivable is_normal (steps, run-derivation length.run) length.normal;
+    only = λ other derivable is_normal. one_end (system d) lawful.well_formed lawful.orthogonal t other form derivable is_normal (steps, run-derivation length.run) length.normal;
     steps = steps;
     length = length;
     within = within;
@@ -27,13 +37,37 @@ module _ (d : Definitions) (accepted : IsAccepted d) (budget : ℕ) (t : Tree He
   }
 
   -- a plain run that is not at its end after the whole budget is longer
-  pub spent : (last : Tree Head) → PlainRun (system d) t budget last → (IsNormal (system d) last → ⊥) → IsSpent budget d t (codes "? spent " ++ decimal budget)
+  pub spent : (last : Tree ReadHead) → PlainRun (system d) t budget last → (IsNormal (system d) last → ⊥) → IsSpent budget d t (codes "? spent " ++ decimal budget)
   spent last run unfinished = record {
     last = last;
     run = run;
     unfinished = unfinished;
     longer = λ form derivable normal.
-        let found = run_found (system d) (well_formed d.equations accepted.regular) (orthogonal d.equations accepted.regular) t form derivable normal in
-        (found.0, found.1, spent_right (system d) (well_formed d.equations accepted.regular) (orthogonal d.equations accepted.regular) t last form budget found.0 run unfinished found.1);
+        let found = run_found (system d) lawful.well_formed lawful.orthogonal t form derivable normal in
+        (found.0, found.1, spent_right (system d) lawful.well_formed lawful.orthogonal t last form budget found.0 run unfinished found.1);
     written = refl;
   }
+
+-- The run of a held term.
+module _ (l : Loaded) (ready : IsReady l) (one : HasOneNumberEach l.symbols) (budget : ℕ) (t : Tree Head) (new : Table) (end : PlainEnd)
+    (is_end : IsEnd (read_system l.symbols l.regular) (read l.symbols t) budget new end) where
+  abbrev d : Definitions
+  d = definitions_of l
+
+  -- the equations are lawful, as they are read
+  lawful : IsLawful (system d)
+  lawful = subst IsLawful (sym (system-held l)) (read_lawful l.symbols l.regular (record { regular = ready.regular; live = ready.live; distinct = one }))
+
+  pub normal_line : (form : Tree Head) (n : ℕ) → end ≡ Normal form n → IsNormalForm budget d (read l.symbols t) (print d.names (read new form))
+  normal_line form n is =
+      let at_end : IsNormalEnd new end (read new form) n = subst (λ e. IsNormalEnd new e (read new form) n) (sym is) (refl, refl) in
+      let run = (is_end.normal (read new form) n).0 at_end in
+      normal_form d lawful budget (read l.symbols t) (read new form) n (subst (λ s. HasLength s (read l.symbols t) n (read new form)) (sym (system-held l)) run.0) run.1
+
+  pub spent_line : (last : Tree Head) → end ≡ Spent last → IsSpent budget d (read l.symbols t) (codes "? spent " ++ decimal budget)
+  spent_line last is =
+      let at_end : IsSpentEnd new end (read new last) = subst (λ e. IsSpentEnd new e (read new last)) (sym is) refl in
+      let run = (is_end.spent (read new last)).0 at_end in
+      let P = λ (s : System ReadHead). PlainRun s (read l.symbols t) budget (read new last) × (IsNormal s (read new last) → ⊥) in
+      let held = subst P (sym (system-held l)) run in
+      spent d lawful budget (read l.symbols t) (read new last) held.0 held.1

@@ -5,32 +5,33 @@ use Rattle.std.proofs.lemmas.Bool.{eqb-true}
 use Rattle.std.proofs.lemmas.Option.{slice_get_within, get_or_from_slice_get}
 use Rattle.eq_base.specs.Tree.{Tree, node, size}
 use Rattle.eq_base.specs.Pattern.{PatternCell}
+use Rattle.eq_base.specs.Rules.{rule_of, right_side}
 use Rattle.eq_base.specs.declared.head.Head.{Head}
 use Rattle.eq_base.specs.declared.rules.Right.{Right}
 use Rattle.eq_base.specs.declared.rules.Right.TheVariants as rights
 use Rattle.eq_base.specs.declared.rules.Equation.{Equation}
 use Rattle.regularity.specs.declared.breaks.Break.{Break}
 use Rattle.regularity.specs.Listing.{Lists}
-use Rattle.regularity.specs.Single.{HasUnbound}
+use Rattle.regularity.specs.Restrictions.{HasUnbound}
 use Rattle.sequentiality.specs.Violations.{IsViolation}
 use Rattle.ei_program.specs.Restrictions.{right_of, broken_side, IsInList}
 
 -- the place of a variable that is not on the left side is one of the right side
-right_place : (left : Tree (PatternCell Head)) (right : Right) (at : ℕ) → HasUnbound left right at → at < size (right_of left right)
+right_place : (left : Tree (PatternCell Head)) (right : Right) (at : ℕ) → HasUnbound left (right_side right) at → at < size (right_of left (right_side right))
 right_place left (rights.Tree p) at unbound = unbound.here.there
 right_place left (rights.Schema op) at unbound = absurd unbound
 
 module _ (es : List Equation) (b : Break) where
   -- the side of a break of RE2 is the right side, and that of the others the left side
-  left_there : (n : ℕ) → b.restriction ≡ n → (n ≡ 2 → ⊥) → (e : Equation) → b.place < size e.left → b.place < size (broken_side b.restriction e)
+  left_there : (n : ℕ) → b.restriction ≡ n → (n ≡ 2 → ⊥) → (e : Equation) → b.place < size e.left → b.place < size (broken_side b.restriction (rule_of e))
   left_there n is other e lt = at_left (n == 2) refl
     where
-      at_left : (two : Bool) → (n == 2) ≡ two → b.place < size (broken_side b.restriction e)
+      at_left : (two : Bool) → (n == 2) ≡ two → b.place < size (broken_side b.restriction (rule_of e))
       at_left true same = absurd (other (eqb-true n 2 same))
-      at_left false same = let side : broken_side b.restriction e ≡ e.left = ap (λ r. broken_side r e) is ∙ ap (λ t. if t then right_of e.left e.right else e.left) same in subst (λ p. b.place < size p) (sym side) lt
+      at_left false same = let side : broken_side b.restriction (rule_of e) ≡ e.left = ap (λ r. broken_side r (rule_of e)) is ∙ ap (λ t. if t then right_of e.left (right_side e.right) else e.left) same in subst (λ p. b.place < size p) (sym side) lt
 
-  right_there : b.restriction ≡ 2 → (e : Equation) → b.place < size (right_of e.left e.right) → b.place < size (broken_side b.restriction e)
-  right_there is e lt = subst (λ p. b.place < size p) (sym (ap (λ r. broken_side r e) is)) lt
+  right_there : b.restriction ≡ 2 → (e : Equation) → b.place < size (right_of e.left (right_side e.right)) → b.place < size (broken_side b.restriction (rule_of e))
+  right_there is e lt = subst (λ p. b.place < size p) (sym (ap (λ r. broken_side r (rule_of e)) is)) lt
 
   some_node : (t : Tree (PatternCell Head)) → 0 < size t
   some_node (node c ps) = omega arith

@@ -1,100 +1,69 @@
--- The equations that a file gives: they are well formed, and their right sides can be printed.
+-- The equations that a file gives are well formed.
 use Rattle.std.proofs.Common.{◌≡◌, ℕ, zero, suc, ◌+◌, ◌<◌, ◌≤◌, List, [], ◌∷◌, ◌++◌, map, length, refl, sym, ap, ◌∙◌, subst, arith, rules, length-append}
 use Rattle.std.specs.Prelude.{Bool, true, false, IsTrue, All, ◌==◌, ◌&&◌, nat_lt, slice_index_or}
 use Rattle.std.specs.List.{AllByRecursion, flat_map}
 use Rattle.std.proofs.lemmas.Grind.{flat_map-append}
-use Rattle.eq_base.specs.Tree.{Tree, node, count, size, cells, head_of, map_heads, AllHeads}
-use Rattle.eq_base.specs.Pattern.{PatternCell, fixed}
+use Rattle.std.proofs.lemmas.List.{length-map, get_or-map}
+use Rattle.eq_base.specs.Tree.{Tree, Forest, node, empty, grow, size, head_of, map_heads, map_all_heads}
+use Rattle.eq_base.specs.Pattern.{PatternCell, fixed, variable, restricted}
+use Rattle.eq_base.specs.Mapping.{map_cell, map_pattern, map_right}
 use Rattle.eq_base.specs.Meeting.{class_number, in_symbol_class}
+use Rattle.eq_base.specs.Rewriting.{operation}
+use Rattle.eq_base.specs.ReadHead.{ReadHead, symbol}
 use Rattle.eq_base.specs.declared.meeting.SymbolClass.TheVariants.{TruthValues}
 use Rattle.eq_base.specs.declared.head.Head.{Head}
 use Rattle.eq_base.specs.declared.head.Head.TheVariants.{Symbol, Numeral, Atom, Text}
-use Rattle.eq_base.specs.declared.rules.Equation.{Equation}
-use Rattle.eq_base.proofs.Heads.{CellHas}
 use Rattle.eq_base.specs.declared.rules.Op.{Op}
+use Rattle.eq_base.specs.declared.rules.Equation.{Equation}
+use Rattle.eq_base.specs.declared.rules.Right.{Right}
 use Rattle.eq_base.specs.declared.rules.Right.TheVariants as rights
-use Rattle.eq_base.proofs.Lists.{all_at, all_contained, all_both}
-use Rattle.term_lex.specs.Lexemes.{Lexeme}
-use Rattle.term_lex.proofs.Readings.{one_reading}
-use Rattle.symbol_table.specs.Table.{Table, symbols_of}
-use Rattle.standmath.specs.Terms.{IsSomeTerm, terminal_of, spelling}
-use Rattle.standmath.specs.Meaning.{outline, MeansCell, MeansTree}
-use Rattle.standmath.specs.Reading.{ReadsPattern}
-use Rattle.standmath.specs.Printing.{HasText}
-use Rattle.standmath.proofs.Outlines.{met_all, nothing, met_term}
-use Rattle.standmath.proofs.Printables.{texts-meant}
-use Rattle.regularity.specs.Arities.{HasArities}
-use Rattle.regularity.specs.WellFormed.{HasSymbolRoot, IsWellFormed, AreWellFormed}
-use Rattle.orthogonal_laws.proofs.Heads.{RightHas}
-use Rattle.orthogonal_laws.specs.Operations.{HaveNoOperations}
-use Rattle.def_file.specs.declared.definitions.Written.{Written as WrittenEquation}
-use Rattle.def_file.specs.declared.definitions.Item.{Item}
-use Rattle.def_file.specs.declared.definitions.Numbered.{Numbered}
-use Rattle.def_file.specs.declared.definitions.Definitions.{Definitions as FileDefinitions}
+use Rattle.eq_base.specs.Rules.{right_side}
+use Rattle.eq_base.proofs.Lists.{all_at, all_both}
+use Rattle.eq_base.proofs.Trees.{size-map_heads, count-map_all_heads}
 use Rattle.term_lex.specs.declared.token.Token.{Token}
-use Rattle.def_file.specs.declared.definitions.Item.TheVariants as item
+use Rattle.symbol_table.specs.Table.{Table, symbols_of}
+use Rattle.symbol_table.specs.Reading.{read_head, read_pattern}
+use Rattle.standmath.specs.Notation.{outline}
+use Rattle.regularity.specs.Arities.{HasArities, HaveArities}
+use Rattle.regularity.specs.WellFormed.{right_size, HasSymbolRoot, IsWellFormed, AreWellFormed}
+use Rattle.def_file.specs.AsRead.{ReadEquation, Equation as WrittenEquation, ReadNumbered, ReadDefinitions}
 use Rattle.def_file.specs.Trees.{Sides, EquationItem, Equates, IncludesOperations}
 use Rattle.def_file.specs.Pairs.{AreRelated}
-use Rattle.def_file.specs.Names.{Known}
-use Rattle.def_file.specs.Sides.{equation_of, Limit, Application, Cells, limits_of, all_limits, IsPattern, IsApplication, Keeps, KeepsAll}
+use Rattle.def_file.specs.Names.{Known, places_of}
+use Rattle.def_file.specs.Sides.{equation_of, Limit, Application, Cells, limits_of, all_limits, IsApplication, Keeps, KeepsAll}
 use Rattle.def_file.specs.Definitions.{classed, MeansSide, MeansEquation, MeansOperation, MeansItem, MeanItems, Says}
 use Rattle.def_file.proofs.Meant.{limits_append}
-use Rattle.ei_program.specs.Definitions.{equation_in, equations_of}
-use Rattle.ei_program.proofs.Meanings.{classed_heads, classed_size, same_size, arity_in, meant_arities, symbol_cell}
+use Rattle.def_file.proofs.OneNaming.{AreOnce, distinct_names, pattern_one}
+use Rattle.ei_program.specs.Definitions.{FileEquation, cells_in, equation_in, equations_of, equation_read}
+use Rattle.ei_program.proofs.Meanings.{classed_size, arity_in, meant_arities}
 
-module _ (text : List ℕ) (known : Known) where
-  -- ---- one text, one reading
-
-  -- two readings of a text have the same names and literals
-  same_names : (byte : ℕ) (p r : Tree (PatternCell Head)) (end end' : ℕ) (one : ReadsPattern known.table known.variables text byte p end) (other : ReadsPattern known.table known.variables text byte r end') → cells (outline one.written) ≡ cells (outline other.written)
-  same_names byte p r end end' one other =
-      let same = (one_reading IsSomeTerm text byte one.lexemes other.lexemes end end' one.reads other.reads).0 in
-      let spelled : spelling one.written ≡ spelling other.written = one.spelled ∙ ap (map terminal_of) same ∙ sym other.spelled in
-      sym (met_term one.written) ∙ ap (λ xs. (met_all xs nothing).heads) spelled ∙ met_term other.written
-
-  -- and patterns of one size
-  one_size : (byte : ℕ) (p r : Tree (PatternCell Head)) → IsPattern text known byte p → IsPattern text known byte r → size p ≡ size r
-  one_size byte p r (end, one) (end', other) =
-      same_size known.table known.variables (outline one.written) (outline other.written) p r (same_names byte p r end end' one other) one.means other.means
-
-  roots : (t u : Tree Lexeme) (p r : Tree (PatternCell Head)) → cells t ≡ cells u → MeansTree known.table known.variables t p → MeansTree known.table known.variables u r → IsApplication p → (m : ℕ) × (head_of r ≡ fixed (Symbol m))
-  roots (node x ts) (node y us) (node (fixed (Symbol n)) ps) (node c rs) same (here, others) (here', others') is =
-      let first : x ≡ y = ap (λ (l : List (Lexeme × ℕ)). (slice_index_or l 0 (x, 0)).0) same in
-      symbol_cell known.table known.variables x (count ts) (count us) n c here (subst (λ z. MeansCell known.table known.variables z (count us) c) (sym first) here')
-  roots t u p r same means means' is = absurd is
-
-  -- and a symbol at the root, if one of them has
-  one_root : (byte : ℕ) (p r : Tree (PatternCell Head)) → IsPattern text known byte p → IsPattern text known byte r → IsApplication p → (m : ℕ) × (head_of r ≡ fixed (Symbol m))
-  one_root byte p r (end, one) (end', other) is =
-      roots (outline one.written) (outline other.written) p r (same_names byte p r end end' one other) one.means other.means is
-
+module _ (text : List ℕ) (known : Known) (once : AreOnce known) where
   -- ---- one equation
 
-  classed_root : (classes : List (ℕ × ℕ)) (p : Tree (PatternCell Head)) (m : ℕ) → head_of p ≡ fixed (Symbol m) → head_of (map_heads (classed classes) p) ≡ fixed (Symbol m)
-  classed_root classes (node c ps) m is = ap (classed classes) is
-
   -- what is known of an equation of the file
-  pub record IsFit (e : Equation) : Type 0 where
-    pub well_formed : IsWellFormed e
-    pub arities : HasArities (arity_in known.table known.variables) e.left
-    pub texts : RightHas (HasText known.table) e.right
+  pub record IsFit (e : FileEquation) : Type 0 where
+    pub left_size : size e.rule.left ≤ 255
+    pub right_size : cells_in e.rule.right ≤ 65535
+    pub root : (s : ℕ) × (head_of e.rule.left ≡ fixed (symbol s))
+    pub arities : HasArities (arity_in known.table known.variables) e.rule.left
+    pub no_operation : (op : Op) → e.rule.right ≡ operation op → ⊥
 
-  side_fits : (classes : List (ℕ × ℕ)) (byte most : ℕ) (p : Tree (PatternCell Head)) → MeansSide text known classes byte p → Keeps text known (Cells most byte) → size p ≤ most
+  side_fits : (classes : List (ℕ × ℕ)) (byte most : ℕ) (p : Tree (PatternCell ReadHead)) → MeansSide text known classes byte p → Keeps text known (Cells most byte) → size p ≤ most
   side_fits classes byte most p (plain, reads, is) (other, reads', fits) =
-      let same : size p ≡ size other = ap size is ∙ classed_size classes plain ∙ one_size byte plain other reads reads' in omega (arith, same, fits)
+      let same : size p ≡ size other = ap size is ∙ classed_size classes plain ∙ ap size (pattern_one text known once byte plain other reads reads') in omega (arith, same, fits)
 
-  side_root : (classes : List (ℕ × ℕ)) (byte : ℕ) (p : Tree (PatternCell Head)) → MeansSide text known classes byte p → Keeps text known (Application byte) → HasSymbolRoot p
+  symbol_root : (classes : List (ℕ × ℕ)) (p : Tree (PatternCell ReadHead)) → IsApplication p → (s : ℕ) × (head_of (map_heads (classed classes) p) ≡ fixed (symbol s))
+  symbol_root classes (node (fixed (symbol n)) ps) is = (n, refl)
+  symbol_root classes p is = absurd is
+
+  side_root : (classes : List (ℕ × ℕ)) (byte : ℕ) (p : Tree (PatternCell ReadHead)) → MeansSide text known classes byte p → Keeps text known (Application byte) → (s : ℕ) × (head_of p ≡ fixed (symbol s))
   side_root classes byte p (plain, reads, is) (other, reads', application) =
-      let root = one_root byte other plain reads' reads application in
-      (root.0, ap head_of is ∙ classed_root classes plain root.0 root.1)
+      let root = symbol_root classes plain (subst IsApplication (pattern_one text known once byte other plain reads' reads) application) in
+      (root.0, ap head_of is ∙ root.1)
 
-  side_arities : (classes : List (ℕ × ℕ)) (byte : ℕ) (p : Tree (PatternCell Head)) → MeansSide text known classes byte p → HasArities (arity_in known.table known.variables) p
+  side_arities : (classes : List (ℕ × ℕ)) (byte : ℕ) (p : Tree (PatternCell ReadHead)) → MeansSide text known classes byte p → HasArities (arity_in known.table known.variables) p
   side_arities classes byte p (plain, (end, reads), is) =
       subst (HasArities (arity_in known.table known.variables)) (sym is) (meant_arities known.table known.variables classes (outline reads.written) plain reads.means)
-
-  side_texts : (classes : List (ℕ × ℕ)) (byte : ℕ) (p : Tree (PatternCell Head)) → MeansSide text known classes byte p → AllHeads (CellHas (HasText known.table)) p
-  side_texts classes byte p (plain, (end, reads), is) =
-      subst (AllHeads (CellHas (HasText known.table))) (sym is) (classed_heads classes (HasText known.table) plain (texts-meant known.table known.variables (outline reads.written) plain reads.means))
 
   keeps_front : (xs ys : List Limit) → KeepsAll text known (xs ++ ys) → KeepsAll text known xs
   keeps_front [] ys all = tt
@@ -104,30 +73,28 @@ module _ (text : List ℕ) (known : Known) where
   keeps_back [] ys all = all
   keeps_back (x ∷ xs) ys (here, others) = keeps_back xs ys others
 
-  equation_fits : (before number : ℕ) (sides : Sides) (w : WrittenEquation) → MeansEquation text known sides w → KeepsAll text known (limits_of before sides)
-      → AllByRecursion IsFit (equations_of (record { item = item.Equation w; number = number } ∷ []))
+  equation_fits : (before number : ℕ) (sides : Sides) (w : ReadEquation) → MeansEquation text known sides w → KeepsAll text known (limits_of before sides)
+      → AllByRecursion IsFit (equations_of (record { item = WrittenEquation w; number = number } ∷ []))
   equation_fits before number sides w means (few, (application, (left, (right, others)))) = (
     record {
-      well_formed = record {
-        left_size = side_fits means.classes sides.left 255 w.left means.left left;
-        right_size = side_fits means.classes sides.right 65535 w.right means.right right;
-        root = side_root means.classes sides.left w.left means.left application;
-      };
+      left_size = side_fits means.classes sides.left 255 w.left means.left left;
+      right_size = side_fits means.classes sides.right 65535 w.right means.right right;
+      root = side_root means.classes sides.left w.left means.left application;
       arities = side_arities means.classes sides.left w.left means.left;
-      texts = side_texts means.classes sides.right w.right means.right;
+      no_operation = λ op e. cc;
     },
     tt,
   )
 
   -- ---- all equations
 
-  no_equations : (number : ℕ) (names : List Token) (ns : List Numbered) → AreRelated (MeansOperation text known number) names ns → equations_of ns ≡ []
+  no_equations : (number : ℕ) (names : List Token) (ns : List ReadNumbered) → AreRelated (MeansOperation text known number) names ns → equations_of ns ≡ []
   no_equations number [] [] means = refl
   no_equations number [] (n ∷ ns) means = absurd means
   no_equations number (t ∷ ts) [] means = absurd means
   no_equations number (t ∷ ts) (n ∷ ns) ((op, named, is), others) = rw is (no_equations number ts ns others)
 
-  item_fits : (before number : ℕ) (i : EquationItem) (ns : List Numbered) → MeansItem text known number i ns → KeepsAll text known (all_limits before (equation_of i))
+  item_fits : (before number : ℕ) (i : EquationItem) (ns : List ReadNumbered) → MeansItem text known number i ns → KeepsAll text known (all_limits before (equation_of i))
       → AllByRecursion IsFit (equations_of ns) × (length (equations_of ns) ≡ length (equation_of i))
   item_fits before number (Equates sides) ns (w, means, is) kept = (
     subst (λ ms. AllByRecursion IsFit (equations_of ms)) (sym is) (equation_fits before number sides w means (keeps_front (limits_of before sides) [] kept)),
@@ -137,7 +104,7 @@ module _ (text : List ℕ) (known : Known) where
       let none = no_equations number names ns means in
       (subst (AllByRecursion IsFit) (sym none) tt, ap length none)
 
-  items_fit : (before number : ℕ) (is : List EquationItem) (ns : List Numbered) → MeanItems text known number is ns → KeepsAll text known (all_limits before (flat_map equation_of is))
+  items_fit : (before number : ℕ) (is : List EquationItem) (ns : List ReadNumbered) → MeanItems text known number is ns → KeepsAll text known (all_limits before (flat_map equation_of is))
       → AllByRecursion IsFit (equations_of ns) × (length (equations_of ns) ≡ length (flat_map equation_of is))
   items_fit before number [] ns none kept = (subst (λ ms. AllByRecursion IsFit (equations_of ms)) (sym none) tt, ap (λ ms. length (equations_of ms)) none)
   items_fit before number (i ∷ is) ns (front, back, split, here, others) kept =
@@ -170,45 +137,75 @@ second_true false b is = cc
 below_two : (s : ℕ) → IsTrue (nat_lt s 2) → s < 2
 below_two s is = search rules
 
-constants : (table : Table) (variables : List (List ℕ)) (class : ℕ) (h : Head) → IsTrue (in_symbol_class class h) → arity_in table variables h ≡ 0
-constants table variables class (Symbol s) is = truth_arity table s (below_two s (second_true (class == class_number TruthValues) (nat_lt s 2) is))
-constants table variables class (Numeral i) is = refl
-constants table variables class (Atom n) is = refl
-constants table variables class (Text n) is = refl
+constants : (names table : Table) (variables : List (List ℕ)) (class : ℕ) (h : Head) → IsTrue (in_symbol_class class h) → arity_in names variables (read_head table h) ≡ 0
+constants names table variables class (Symbol s) is = truth_arity names s (below_two s (second_true (class == class_number TruthValues) (nat_lt s 2) is))
+constants names table variables class (Numeral i) is = refl
+constants names table variables class (Atom n) is = refl
+constants names table variables class (Text n) is = refl
+
+-- ---- equations by their numbers
+
+-- a pattern has the numbers of arguments that it has as it is read
+module _ (arity : ReadHead → ℕ) (f : Head → ReadHead) where
+  empty_back : (ps : Forest (PatternCell Head)) → ◌≡◌ {A = Forest (PatternCell ReadHead)} (map_all_heads (map_cell f) ps) empty → ps ≡ empty
+  empty_back empty e = refl
+  empty_back (grow p ps) e = cc
+
+  mutual
+    arities_back : (p : Tree (PatternCell Head)) → HasArities arity (map_pattern f p) → HasArities (λ h. arity (f h)) p
+    arities_back (node (fixed h) ps) (here, others) = (sym (count-map_all_heads (map_cell f) ps) ∙ here, all_arities_back ps others)
+    arities_back (node (variable x) ps) none = empty_back ps none
+    arities_back (node (restricted x class) ps) none = empty_back ps none
+
+    all_arities_back : (ps : Forest (PatternCell Head)) → HaveArities arity (map_all_heads (map_cell f) ps) → HaveArities (λ h. arity (f h)) ps
+    all_arities_back empty all = tt
+    all_arities_back (grow p ps) (first, others) = (arities_back p first, all_arities_back ps others)
+
+root_back : (table : Table) (p : Tree (PatternCell Head)) (s : ℕ) → head_of (read_pattern table p) ≡ fixed (symbol s) → HasSymbolRoot p
+root_back table (node (fixed (Symbol n)) ps) s is = (n, refl)
+root_back table (node (fixed (Numeral n)) ps) s is = cc
+root_back table (node (fixed (Atom n)) ps) s is = cc
+root_back table (node (fixed (Text n)) ps) s is = cc
+root_back table (node (variable x) ps) s is = cc
+root_back table (node (restricted x class) ps) s is = cc
+
+module _ (text : List ℕ) (known : Known) (once : AreOnce known) (table : Table) where
+  numbered_fits : (e : Equation) → IsFit text known once (equation_read table e) → IsWellFormed e
+  numbered_fits e fit = record {
+    left_size = let fits = fit.left_size in omega (arith, size-map_heads (map_cell (read_head table)) e.left, fits);
+    right_size = right_fits e fit;
+    root = root_back table e.left fit.root.0 fit.root.1;
+    applied = λ op is. absurd (fit.no_operation op (ap (λ r. map_right (read_head table) (right_side r)) is));
+  }
+    where
+      sized : (r : Right) → cells_in (map_right (read_head table) (right_side r)) ≡ right_size r
+      sized (rights.Tree p) = size-map_heads (map_cell (read_head table)) p
+      sized (rights.Schema op) = refl
+
+      right_fits : (e : Equation) → IsFit text known once (equation_read table e) → right_size e.right ≤ 65535
+      right_fits e fit = let fits = fit.right_size in omega (arith, sized e.right, fits)
 
 -- ---- a file
 
-module _ (text : List ℕ) (d : FileDefinitions) (says : Says text d) where
-  fits : AllByRecursion (IsFit text says.known) (equations_of d.items) × (length (equations_of d.items) ≡ length (flat_map equation_of says.file.items))
-  fits = items_fit text says.known 0 1 says.file.items d.items says.items says.limits
+module _ (text : List ℕ) (d : ReadDefinitions) (says : Says text d) (table : Table) (numbered : List Equation) (is : map (equation_read table) numbered ≡ equations_of d.items) where
+  once : AreOnce says.known
+  once = distinct_names text (places_of says.file) says.known says.names
 
-  each : (P : Equation → Type 0) → ((e : Equation) → IsFit text says.known e → P e) → All P (equations_of d.items)
-  each P of k e lt = of _ (all_at (IsFit text says.known) (equations_of d.items) k e lt fits.0)
+  fits : AllByRecursion (IsFit text says.known once) (equations_of d.items) × (length (equations_of d.items) ≡ length (flat_map equation_of says.file.items))
+  fits = items_fit text says.known once 0 1 says.file.items d.items says.items says.limits
 
-  -- its equations are well formed
-  pub file_well_formed : AreWellFormed (equations_of d.items)
+  each : (P : Equation → Type 0) → ((e : Equation) → IsFit text says.known once (equation_read table e) → P e) → All P numbered
+  each P of k e lt =
+      let all = subst (AllByRecursion (IsFit text says.known once)) (sym is) fits.0 in
+      let within : k < length (map (equation_read table) numbered) = omega (arith, length-map numbered (equation_read table), lt) in
+      of _ (subst (IsFit text says.known once) (get_or-map (equation_read table) numbered k e (equation_read table e) lt) (all_at (IsFit text says.known once) (map (equation_read table) numbered) k (equation_read table e) within all))
+
+  -- its equations are well formed, whatever numbers their heads have
+  pub file_well_formed : AreWellFormed numbered
   file_well_formed = record {
-    few = let few = few_equations text says.known 0 (flat_map equation_of says.file.items) (omega arith) says.limits in omega (arith, few, fits.1);
-    each = each IsWellFormed (λ e fit. fit.well_formed);
-    arity = arity_in says.known.table says.known.variables;
-    arities = each (λ e. HasArities (arity_in says.known.table says.known.variables) e.left) (λ e fit. fit.arities);
-    constants = constants says.known.table says.known.variables;
+    few = let few = few_equations text says.known once 0 (flat_map equation_of says.file.items) (omega arith) says.limits in omega (arith, few, fits.1, ap length is, length-map numbered (equation_read table));
+    each = each IsWellFormed (numbered_fits text says.known once table);
+    arity = λ h. arity_in says.known.table says.known.variables (read_head table h);
+    arities = each (λ e. HasArities (λ h. arity_in says.known.table says.known.variables (read_head table h)) e.left) (λ e fit. arities_back (arity_in says.known.table says.known.variables) (read_head table) e.left fit.arities);
+    constants = constants says.known.table table says.known.variables;
   }
-
-  -- its right sides can be printed
-  pub file_texts : All (λ e. RightHas (HasText d.symbols) e.right) (equations_of d.items)
-  file_texts = each (λ e. RightHas (HasText d.symbols) e.right) (λ e fit. subst (λ (t : Table). RightHas (HasText t) e.right) (sym says.symbols) fit.texts)
-
--- ---- right sides are patterns
-
-item_is_tree : (i : Item) (number : ℕ) → AllByRecursion (λ e. (op : Op) → e.right ≡ rights.Schema op → ⊥) (equation_in i number)
-item_is_tree (item.Equation w) number = (λ op e. cc, tt)
-item_is_tree (item.Class op byte) number = tt
-
-items_are_trees : (ns : List Numbered) → AllByRecursion (λ e. (op : Op) → e.right ≡ rights.Schema op → ⊥) (equations_of ns)
-items_are_trees [] = tt
-items_are_trees (n ∷ ns) = all_both (λ e. (op : Op) → e.right ≡ rights.Schema op → ⊥) (equation_in n.item n.number) (equations_of ns) (item_is_tree n.item n.number) (items_are_trees ns)
-
--- no right side is an operation
-pub no_operations : (ns : List Numbered) → HaveNoOperations (equations_of ns)
-no_operations ns e listed = all_contained (λ e. (op : Op) → e.right ≡ rights.Schema op → ⊥) (equations_of ns) e (items_are_trees ns) listed

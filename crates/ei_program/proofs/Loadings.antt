@@ -1,28 +1,33 @@
 -- What is known of a file when its equations were checked.
-use Rattle.std.proofs.Common.{◌≡◌, ℕ, List, sym, ap, subst, Ok, Err}
+use Rattle.std.proofs.Common.{◌≡◌, ℕ, List, map, sym, ap, ◌∙◌, subst, Ok, Err}
 use Rattle.std.specs.Prelude.{IfOk, Result}
 use Rattle.std.specs.declared.option.Option.{Option}
 use Rattle.std.specs.declared.option.Option.TheVariants.{Some}
+use Rattle.eq_base.specs.Rules.{rule_of}
 use Rattle.eq_base.specs.declared.rules.Equation.{Equation}
-use Rattle.symbol_table.specs.Table.{Keeps}
-use Rattle.symbol_table.proofs.Keeping.{keeps_refl}
+use Rattle.symbol_table.specs.Table.{HasOneNumberEach, names_of}
+use Rattle.symbol_table.specs.Reading.{AreLive}
 use Rattle.regularity.specs.declared.breaks.Break.{Break}
 use Rattle.regularity.specs.Listing.{Lists}
 use Rattle.sequentiality.specs.Violations.{IsViolation}
-use Rattle.sequentiality.specs.Regular.{AreRegular}
+use Rattle.sequentiality.specs.Regular.{AreRegular, IsRefused}
+use Rattle.sequentiality.specs.declared.regular.AdmitError.TheVariants.{Broken as BrokenRules}
+use Rattle.orthogonal_laws.specs.Operations.{AreTruthsKnown}
 use Rattle.ei_program.specs.declared.stop.Stop.TheVariants.{NoMemory, ReadFailed, WriteFailed}
 use Rattle.ei_program.specs.declared.outcome.Outcome.{Outcome}
 use Rattle.ei_program.specs.declared.outcome.Outcome.TheVariants.{Answered, Questions, BadWords, FileRefused, Broken, TermRefused, Stopped}
 use Rattle.ei_program.specs.declared.definitions.Equations.{Equations}
 use Rattle.ei_program.specs.declared.loading.Loaded.{Loaded}
-use Rattle.ei_program.specs.Definitions.{Definitions, Defines, Grows, IsAccepted, definitions_in, definitions_of}
-use Rattle.ei_program.specs.Loading.{IsAdmitted, IsLoaded}
+use Rattle.ei_program.specs.Definitions.{Definitions, equation_read, BreaksNone, Defines, definitions_in, definitions_of}
+use Rattle.ei_program.specs.Restrictions.{origin_of, broken_text, AreBroken}
+use Rattle.ei_program.specs.Loading.{AreUsable, IsReady, IsAdmitted, IsLoaded}
+use Rattle.ei_program.proofs.Broken.{told_read, lists_read, none_read}
 
 module _ (file : List ℕ) (equations : Equations) where
   -- a file whose equations were admitted, or refused
   pub admit_loaded : (found : Option (List ℕ)) (r : Result Loaded Outcome) → found ≡ Some file → Defines file (definitions_in equations) → IsAdmitted equations r → IsLoaded found r
-  admit_loaded found (Ok loaded) is defines (same, regular) =
-      (file, is, subst (Defines file) (sym same) defines, subst (λ (d : Definitions). AreRegular d.equations) (sym same) regular)
+  admit_loaded found (Ok loaded) is defines (same, ready) =
+      (file, is, subst (Defines file) (sym same) defines, ready.accepted.regular)
   admit_loaded found (Err (Broken breaks rules)) is defines broken = (file, definitions_in equations, is, defines, broken)
   admit_loaded found (Err (Stopped NoMemory)) is defines a = tt
   admit_loaded found (Err (Stopped ReadFailed)) is defines a = absurd a
@@ -33,23 +38,35 @@ module _ (file : List ℕ) (equations : Equations) where
   admit_loaded found (Err (FileRefused fault)) is defines a = absurd a
   admit_loaded found (Err (TermRefused fault)) is defines a = absurd a
 
-  same_grows : (d e : Definitions) → e ≡ d → Grows d e
-  same_grows d e same = record {
-    table = subst (λ (o : Definitions). Keeps d.table o.table) (sym same) (keeps_refl d.table);
-    variables = ap (λ (o : Definitions). o.variables) same;
-    equations = ap (λ (o : Definitions). o.equations) same;
-  }
+  -- the equations that were admitted can be used
+  pub admit_ready : (r : Result Loaded Outcome) → IsAdmitted equations r → IfOk r IsReady
+  admit_ready (Ok loaded) (same, ready) = ready
+  admit_ready (Err outcome) a = tt
 
-  -- the equations that were admitted are accepted
-  pub admit_accepted : (r : Result Loaded Outcome) → Defines file (definitions_in equations) → IsAdmitted equations r → IfOk r (λ loaded. IsAccepted (definitions_of loaded))
-  admit_accepted (Ok loaded) defines (same, regular) = record {
-    file = file;
-    origin = definitions_in equations;
-    defines = defines;
-    grows = same_grows (definitions_in equations) (definitions_of loaded) same;
-    regular = subst (λ (d : Definitions). AreRegular d.equations) (sym same) regular;
-  }
-  admit_accepted (Err outcome) defines a = tt
+-- equations that keep the restrictions can be used
+pub admitted : (e : Equations) (rules : List Equation) (file : List ℕ) → Defines file (definitions_in e) → AreUsable e
+    → HasOneNumberEach e.symbols → rules ≡ e.rules → AreRegular rules
+    → IsAdmitted e (Ok (record { symbols = e.symbols; variables = e.variables; regular = rules }))
+admitted e rules file defines usable one same regular =
+    let held : Loaded = record { symbols = e.symbols; variables = e.variables; regular = rules } in
+    let is : definitions_of held ≡ definitions_in e = ap (λ es. record { names = names_of e.symbols; variables = e.variables; equations = map (equation_read e.symbols) es }) same in (
+      is,
+      record {
+        accepted = record { file = file; defines = subst (Defines file) (sym is) defines; regular = subst (λ (d : Definitions). BreaksNone d.equations) (sym is) (none_read e.symbols one e.rules usable.live (subst AreRegular same regular).no_violation) };
+        regular = regular;
+        live = subst (AreLive e.symbols) (sym same) usable.live;
+        truths = subst (AreTruthsKnown e.symbols) (sym same) usable.truths;
+      },
+    )
+
+-- the breaks of equations are those of the equations as they are read
+pub broken_read : (e : Equations) (rules : List Equation) (breaks : List Break) → AreUsable e → HasOneNumberEach e.symbols
+    → IsRefused e.rules (BrokenRules breaks rules) → AreBroken (definitions_in e).equations breaks rules
+broken_read e rules breaks usable one (same, lists, some) = record {
+  listed = lists_read e.symbols one e.rules usable.live breaks lists;
+  some = some;
+  told = ap (λ es. broken_text rule_of origin_of es breaks) same ∙ told_read e.symbols e.rules breaks;
+}
 
 -- the breaks of equations that come back are theirs
 pub breaks_of : (equations rules : List Equation) (breaks : List Break) → (rules ≡ equations) → Lists (IsViolation equations) breaks → Lists (IsViolation rules) breaks

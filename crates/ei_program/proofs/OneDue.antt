@@ -7,12 +7,7 @@ use Rattle.eq_base.specs.declared.rules.Equation.{Equation}
 use Rattle.eq_base.proofs.Heads.{some_same}
 use Rattle.regularity.specs.declared.breaks.Break.{Break}
 use Rattle.term_lex.specs.declared.fault.Fault.{Fault}
-use Rattle.symbol_table.specs.Table.{Table, HasDistinctNames}
-use Rattle.sequentiality.specs.Violations.{IsViolation}
-use Rattle.sequentiality.specs.Regular.{AreRegular, IsRefused as IsBroken}
-use Rattle.sequentiality.specs.declared.regular.AdmitError.TheVariants.{Broken as BrokenRules}
-use Rattle.def_file.specs.Names.{places_of}
-use Rattle.def_file.proofs.OneNaming.{distinct_names, distinct_as}
+use Rattle.symbol_table.specs.Table.{HasDistinctNames}
 use Rattle.ei_program.specs.declared.words.Task.{Task}
 use Rattle.ei_program.specs.declared.words.Task.TheVariants.{Answer, Check}
 use Rattle.ei_program.specs.declared.stop.Stop.{Stop}
@@ -21,14 +16,16 @@ use Rattle.ei_program.specs.declared.outcome.Outcome.TheVariants.{Answered, Ques
 use Rattle.ei_program.specs.Words.{IsTask, Asks, IsCommandLine}
 use Rattle.ei_program.specs.Input.{Holds, RefusesInput}
 use Rattle.eq_base.specs.Tree.{Tree}
-use Rattle.eq_base.specs.declared.head.Head.{Head}
+use Rattle.eq_base.specs.ReadHead.{ReadHead}
+use Rattle.eq_base.specs.Rules.{rule_of}
 use Rattle.regularity.specs.Listing.{Lists}
-use Rattle.ei_program.specs.Definitions.{Definitions, Gives, RefusesFile, Grows}
+use Rattle.ei_program.specs.Definitions.{FileEquation, Definitions, rule_in, Breaks, BreaksNone, Gives, RefusesFile}
+use Rattle.ei_program.specs.Restrictions.{origin_of, origin_in, broken_text, AreBroken}
 use Rattle.ei_program.specs.Run.{Given, HasFile, HasDefinitions, Accepts, Leaves}
 use Rattle.ei_program.specs.Due.{CanAnswer, HasTermFault, IsDue, AnswersDue}
 use Rattle.ei_program.proofs.CommandLines.{one_last}
-use Rattle.ei_program.proofs.OneListing.{one_listing}
-use Rattle.ei_program.proofs.OneGiving.{none_included, same_equations, same_declared, defines_or_refused, one_refusal}
+use Rattle.regularity.proofs.OneListing.{one_listing}
+use Rattle.ei_program.proofs.OneGiving.{one_given, given_distinct, defines_or_refused, one_refusal}
 use Rattle.ei_program.proofs.OneInput.{held_or_refused, one_fault}
 
 -- ---- the words
@@ -71,51 +68,39 @@ module _ (given : Given) where
 
   -- ---- the restrictions
 
-  regular_or_broken : (es : List Equation) (breaks : List Break) (rules : List Equation) → AreRegular es → IsBroken es (BrokenRules breaks rules) → ⊥
-  regular_or_broken es [] rules regular (same, lists, some) = omega (arith, some)
-  regular_or_broken es (b ∷ bs) rules regular (same, lists, some) = regular.no_violation b (lists.only b (0, some, refl))
+  regular_or_broken : (es : List FileEquation) (breaks : List Break) (rules : List Equation) → BreaksNone es → AreBroken es breaks rules → ⊥
+  regular_or_broken es [] rules regular broken = let some = broken.some in omega (arith, some)
+  regular_or_broken es (b ∷ bs) rules regular broken = regular b (broken.listed.only b (0, broken.some, refl))
 
-  accepts_or_broken : (task other : Task) (d e : Definitions) (breaks : List Break) (rules : List Equation) → Accepts given task d → HasDefinitions given other e → IsBroken e.equations (BrokenRules breaks rules) → ⊥
+  accepts_or_broken : (task other : Task) (d e : Definitions) (breaks : List Break) (rules : List Equation) → Accepts given task d → HasDefinitions given other e → AreBroken e.equations breaks rules → ⊥
   accepts_or_broken task other d e breaks rules a k broken =
-      let same = same_equations a.definitions.bytes d e a.definitions.defines.0 (both_give task other d e a.definitions k) in
-      regular_or_broken e.equations breaks rules (subst AreRegular same a.regular) broken
+      let same = one_given a.definitions.bytes d e a.definitions.defines.0 (both_give task other d e a.definitions k) in
+      regular_or_broken e.equations breaks rules (subst (λ (o : Definitions). BreaksNone o.equations) same a.regular) broken
 
-  one_broken : (task other : Task) (d e : Definitions) (bs cs : List Break) (rs ss : List Equation) → HasDefinitions given task d → HasDefinitions given other e → IsBroken d.equations (BrokenRules bs rs) → IsBroken e.equations (BrokenRules cs ss) → (bs ≡ cs) × (rs ≡ ss)
+  one_broken : (task other : Task) (d e : Definitions) (bs cs : List Break) (rs ss : List Equation) → HasDefinitions given task d → HasDefinitions given other e → AreBroken d.equations bs rs → AreBroken e.equations cs ss
+      → (cs ≡ bs) × (broken_text rule_of origin_of ss bs ≡ broken_text rule_of origin_of rs bs)
   one_broken task other d e bs cs rs ss h k one two =
-      let same = same_equations h.bytes d e h.defines.0 (both_give task other d e h k) in
-      (one_listing (IsViolation e.equations) bs cs (subst (λ es. Lists (IsViolation es) bs) same one.1) two.1, one.0 ∙ same ∙ sym two.0)
+      let same = one_given h.bytes d e h.defines.0 (both_give task other d e h k) in
+      let listed = one_listing (Breaks e.equations) cs bs two.listed (subst (λ (o : Definitions). Lists (Breaks o.equations) bs) same one.listed) in (
+        listed,
+        ap (broken_text rule_of origin_of ss) (sym listed) ∙ two.told ∙ ap (broken_text rule_in origin_in e.equations) listed
+            ∙ sym (ap (λ (o : Definitions). broken_text rule_in origin_in o.equations bs) same) ∙ sym one.told,
+      )
 
   -- ---- the input
 
-  -- definitions to which atoms and texts have joined: no class is included, and no name declared twice
-  grown_none : (text : List ℕ) (d e : Definitions) → Gives text d → Grows d e → e.table.included ≡ []
-  grown_none text d e g grows = grows.table.included ∙ ap (λ (o : Definitions). o.table.included) g.is ∙ none_included text d g
+  module _ (task other : Task) (d e : Definitions) (a : Accepts given task d) (b : Accepts given other e) where
+    same_definitions : d ≡ e
+    same_definitions = one_given a.definitions.bytes d e a.definitions.defines.0 (both_give task other d e a.definitions b.definitions)
 
-  grown_names : (text : List ℕ) (d e : Definitions) → Gives text d → Grows d e → HasDistinctNames e.table
-  grown_names text d e g grows =
-      let says = g.says in
-      let once = distinct_names text (places_of says.file) says.known says.names in
-      let to_file = ap (λ (o : Definitions). o.table) g.is ∙ says.symbols in
-      distinct_as says.known.table e.table (sym (grows.table.declared ∙ ap (λ (t : Table). t.declared) to_file)) (sym (grows.table.included ∙ ap (λ (t : Table). t.included) to_file)) once.names
+    distinct : HasDistinctNames d.names
+    distinct = given_distinct a.definitions.bytes d a.definitions.defines.0
 
-  module _ (task other : Task) (d e d' e' : Definitions) (a : Accepts given task d) (b : Accepts given other d') (grows : Grows d e) (grows' : Grows d' e') where
-    abbrev text : List ℕ
-    text = a.definitions.bytes
+    one_term_fault : (f g : Fault) → RefusesInput d.names given.input f → RefusesInput e.names given.input g → f ≡ g
+    one_term_fault f g r s = one_fault d.names distinct given.input f g r (subst (λ (o : Definitions). RefusesInput o.names given.input g) (sym same_definitions) s)
 
-    gives : Gives text d
-    gives = a.definitions.defines.0
-
-    gives' : Gives text d'
-    gives' = both_give task other d d' a.definitions b.definitions
-
-    grown_same : e.table.declared ≡ e'.table.declared
-    grown_same = grows.table.declared ∙ same_declared text d d' gives gives' ∙ sym grows'.table.declared
-
-    one_term_fault : (f g : Fault) → RefusesInput e.table given.input f → RefusesInput e'.table given.input g → f ≡ g
-    one_term_fault f g r s = one_fault e.table e'.table grown_same (grown_none text d e gives grows) (grown_none text d' e' gives' grows') (grown_names text d' e' gives' grows') given.input f g r s
-
-    held_not_refused : (f : Fault) (terms : List (Tree Head)) → RefusesInput e.table given.input f → length given.input ≤ 2 ^ 24 → Holds e'.table given.input terms → ⊥
-    held_not_refused f terms r short holds = held_or_refused e.table e'.table grown_same (grown_none text d e gives grows) (grown_none text d' e' gives' grows') (grown_names text d' e' gives' grows') given.input f terms r short holds
+    held_not_refused : (f : Fault) (terms : List (Tree ReadHead)) → RefusesInput d.names given.input f → length given.input ≤ 2 ^ 24 → Holds e.names given.input terms → ⊥
+    held_not_refused f terms r short holds = held_or_refused d.names distinct given.input f terms r short (subst (λ (o : Definitions). Holds o.names given.input terms) (sym same_definitions) holds)
 
   -- ---- one outcome
 
@@ -134,7 +119,7 @@ module _ (given : Given) where
   due_has (inr (d, a)) = (Check, d, a)
 
   due_not_refused : Due → (f : Fault) → HasTermFault given f → ⊥
-  due_not_refused (inl c) f t = held_not_refused (Answer t.budget) (Answer c.budget) t.definitions t.grown c.definitions c.grown t.accepts c.accepts t.grows c.grows f c.terms t.refused c.short c.holds
+  due_not_refused (inl c) f t = held_not_refused (Answer t.budget) (Answer c.budget) t.definitions c.definitions t.accepts c.accepts f c.terms t.refused c.short c.holds
   due_not_refused (inr (d, a)) f t = other_task t.budget t.definitions d t.accepts a
 
   -- a run that does not stop early comes to what is due
@@ -153,13 +138,13 @@ module _ (given : Given) where
   one_due (FileRefused f) Answered (task, bytes, file, why) q = let has = due_has q in absurd (has_or_refused has.0 task has.1 bytes f has.2.definitions file why)
   one_due (Broken bs rs) BadWords (task, d, h, broken) q = absurd (q (asked_words task d h))
   one_due (Broken bs rs) (FileRefused g) (task, d, h, broken) (task', bytes, file, why) = absurd (has_or_refused task task' d bytes g h file why)
-  one_due (Broken bs rs) (Broken cs ss) (task, d, h, one) (task', e, k, two) = let same = one_broken task' task e d cs bs ss rs k h two one in λ i. Broken (same.0 i) (same.1 i)
+  one_due (Broken bs rs) (Broken cs ss) (task, d, h, one) (task', e, k, two) = let same = one_broken task task' d e bs cs rs ss h k one two in (ss, ap (λ breaks. Broken breaks ss) same.0, same.1)
   one_due (Broken bs rs) (TermRefused g) (task, d, h, broken) t = absurd (accepts_or_broken (Answer t.budget) task t.definitions d bs rs t.accepts h broken)
   one_due (Broken bs rs) Answered (task, d, h, broken) q = let has = due_has q in absurd (accepts_or_broken has.0 task has.1 d bs rs has.2 h broken)
   one_due (TermRefused f) BadWords t q = absurd (q (asked_words (Answer t.budget) t.definitions t.accepts.definitions))
   one_due (TermRefused f) (FileRefused g) t (task, bytes, file, why) = absurd (has_or_refused (Answer t.budget) task t.definitions bytes g t.accepts.definitions file why)
   one_due (TermRefused f) (Broken bs rs) t (task, d, h, broken) = absurd (accepts_or_broken (Answer t.budget) task t.definitions d bs rs t.accepts h broken)
-  one_due (TermRefused f) (TermRefused g) t u = ap (λ z. TermRefused z) (one_term_fault (Answer u.budget) (Answer t.budget) u.definitions u.grown t.definitions t.grown u.accepts t.accepts u.grows t.grows g f u.refused t.refused)
+  one_due (TermRefused f) (TermRefused g) t u = ap (λ z. TermRefused z) (one_term_fault (Answer u.budget) (Answer t.budget) u.definitions t.definitions u.accepts t.accepts g f u.refused t.refused)
   one_due (TermRefused f) Answered t q = absurd (due_not_refused q f t)
   one_due Answered BadWords p q = let has = due_has p in absurd (q (asked_words has.0 has.1 has.2.definitions))
   one_due Answered (FileRefused g) p (task, bytes, file, why) = let has = due_has p in absurd (has_or_refused has.0 task has.1 bytes g has.2.definitions file why)
@@ -179,15 +164,15 @@ module _ (given : Given) where
   due_left left (FileRefused f) written l goes_on due is = one_due due (FileRefused f) is l.0
   due_left left (Broken bs rs) written l goes_on due is = one_due due (Broken bs rs) is l.0
   due_left left (TermRefused f) written (inl a) goes_on due is =
-      one_due due (TermRefused f) is (record { budget = a.budget; definitions = a.definitions; grown = a.grown; accepts = a.accepts; grows = a.grows; refused = a.answered.0 })
+      one_due due (TermRefused f) is (record { budget = a.budget; definitions = a.definitions; accepts = a.accepts; refused = a.answered.0 })
   due_left left (TermRefused f) written (inr (inl c)) goes_on due is = absurd c.told
   due_left left (TermRefused f) written (inr (inr s)) goes_on due is = absurd s.0
   due_left left Answered written (inl a) goes_on due is =
-      one_due due Answered is (inl (record { budget = a.budget; definitions = a.definitions; grown = a.grown; accepts = a.accepts; grows = a.grows; short = a.answered.1; terms = a.answered.2.1.terms; holds = a.answered.2.1.reads }))
+      one_due due Answered is (inl (record { budget = a.budget; definitions = a.definitions; accepts = a.accepts; short = a.answered.1; terms = a.answered.2.1.terms; holds = a.answered.2.1.reads }))
   due_left left Answered written (inr (inl c)) goes_on due is = one_due due Answered is (inr (c.definitions, c.accepts))
   due_left left Answered written (inr (inr s)) goes_on due is = absurd s.0
   due_left left Questions written (inl a) goes_on due is =
-      questions due (one_due due Answered is (inl (record { budget = a.budget; definitions = a.definitions; grown = a.grown; accepts = a.accepts; grows = a.grows; short = a.answered.1; terms = a.answered.2.1.answers.terms; holds = a.answered.2.1.answers.reads })))
+      questions due (one_due due Answered is (inl (record { budget = a.budget; definitions = a.definitions; accepts = a.accepts; short = a.answered.1; terms = a.answered.2.1.answers.terms; holds = a.answered.2.1.answers.reads })))
     where
       -- where all terms can be answered, some may be by `? spent`
       questions : (due : Outcome) → AnswersDue due Answered → AnswersDue due Questions
@@ -195,7 +180,7 @@ module _ (given : Given) where
       questions Questions p = cc
       questions BadWords p = cc
       questions (FileRefused f) p = cc
-      questions (Broken bs rs) p = cc
+      questions (Broken bs rs) (other, is, told) = cc
       questions (TermRefused f) p = cc
       questions (Stopped stop) p = cc
   due_left left Questions written (inr (inl c)) goes_on due is = absurd c.told

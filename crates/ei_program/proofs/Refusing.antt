@@ -2,7 +2,6 @@
 use Rattle.std.proofs.Common.{◌≡◌, ℕ, List, [], refl, inl, inr, Err}
 use Rattle.std.specs.declared.option.Option.{Option}
 use Rattle.std.specs.declared.option.Option.TheVariants.{Some}
-use Rattle.sequentiality.specs.Regular.{AreRegular}
 use Rattle.ei_program.specs.declared.words.Task.{Task}
 use Rattle.ei_program.specs.declared.words.Task.TheVariants.{Answer, Check}
 use Rattle.ei_program.specs.declared.stop.Stop.TheVariants.{NoMemory, ReadFailed, WriteFailed}
@@ -10,12 +9,12 @@ use Rattle.ei_program.specs.declared.outcome.Outcome.{Outcome}
 use Rattle.ei_program.specs.declared.outcome.Outcome.TheVariants.{Answered, Questions, BadWords, FileRefused, Broken, TermRefused, Stopped}
 use Rattle.ei_program.specs.Words.{Asks}
 use Rattle.ei_program.specs.Loading.{IsLoaded}
-use Rattle.ei_program.specs.Definitions.{Definitions, Defines, Grows}
+use Rattle.ei_program.specs.Definitions.{Definitions, Defines, BreaksNone}
 use Rattle.ei_program.specs.Run.{Given, Accepts, AnswersTask, ChecksTask, Leaves, InputLeft, IsChecked}
 
 -- the file is there, gives these definitions, and they break no restriction
 abbrev pub Loads : Option (List ℕ) → Definitions → Type 0
-Loads found d = (file : List ℕ) × (found ≡ Some file) × Defines file d × AreRegular d.equations
+Loads found d = (file : List ℕ) × (found ≡ Some file) × Defines file d × BreaksNone d.equations
 
 module _ (given : Given) (task : Task) (name : List ℕ) (asked : Asks given.words task name) where
   -- nothing was taken of the input, and nothing written
@@ -38,11 +37,11 @@ module _ (given : Given) (task : Task) (name : List ℕ) (asked : Asks given.wor
   }
 
 -- the file is accepted, and the terms of the input were answered
-module _ (given : Given) (budget : ℕ) (name : List ℕ) (asked : Asks given.words (Answer budget) name) (d e : Definitions) (loads : Loads (given.named name) d) (grows : Grows d e) (left : Option (List ℕ)) where
-  answers_task : (outcome : Outcome) (written : List ℕ) → InputLeft budget e given.input left outcome written → AnswersTask given left outcome written
-  answers_task outcome written t = record { definitions = d; grown = e; budget = budget; accepts = accepts given (Answer budget) name asked d loads; grows = grows; answered = t }
+module _ (given : Given) (budget : ℕ) (name : List ℕ) (asked : Asks given.words (Answer budget) name) (d : Definitions) (loads : Loads (given.named name) d) (left : Option (List ℕ)) where
+  answers_task : (outcome : Outcome) (written : List ℕ) → InputLeft budget d given.input left outcome written → AnswersTask given left outcome written
+  answers_task outcome written t = record { definitions = d; budget = budget; accepts = accepts given (Answer budget) name asked d loads; answered = t }
 
-  pub answered : (outcome : Outcome) (written : List ℕ) → InputLeft budget e given.input left outcome written → Leaves given left outcome written
+  pub answered : (outcome : Outcome) (written : List ℕ) → InputLeft budget d given.input left outcome written → Leaves given left outcome written
   answered Answered written t = inl (answers_task Answered written t)
   answered Questions written t = inl (answers_task Questions written t)
   answered (TermRefused fault) written t = inl (answers_task (TermRefused fault) written t)

@@ -1,7 +1,7 @@
 -- The line of a term, and what its writing leaves.
 use Rattle.std.specs.Prelude.{◌≡◌, ◌≢◌, ℕ, ◌≤◌, Bool, true, false, List, ◌++◌}
 use Rattle.eq_base.specs.Tree.{Tree}
-use Rattle.eq_base.specs.declared.head.Head.{Head}
+use Rattle.eq_base.specs.ReadHead.{ReadHead}
 use Rattle.eq_ports.specs.Causes.{Rose}
 use Rattle.ei_program.specs.declared.answer.Line.{Line}
 use Rattle.ei_program.specs.declared.stop.Stop.TheVariants.{ReadFailed, WriteFailed}
@@ -12,16 +12,16 @@ use Rattle.ei_program.specs.Lines.{IsNormalForm, IsSpent, IsLine, ended}
 
 module _ (budget : ℕ) where
   -- the line of its kind
-  abbrev pub IsLineBy : Bool → Definitions → Tree Head → List ℕ → Type 0
+  abbrev pub IsLineBy : Bool → Definitions → Tree ReadHead → List ℕ → Type 0
   IsLineBy true d t line = IsNormalForm budget d t line
   IsLineBy false d t line = IsSpent budget d t line
 
   -- the line answers the term
-  abbrev pub IsLineOf : Definitions → Tree Head → Line → Type 0
+  abbrev pub IsLineOf : Definitions → Tree ReadHead → Line → Type 0
   IsLineOf d t l = (line : List ℕ) × IsLineBy l.is_normal d t line × (l.text.items ≡ ended line)
 
   -- what was written of the line, by the outcome
-  abbrev pub LineLeft : Definitions → Tree Head → Outcome → List ℕ → Type 0
+  abbrev pub LineLeft : Definitions → Tree ReadHead → Outcome → List ℕ → Type 0
   LineLeft d t Answered written = (line : List ℕ) × IsNormalForm budget d t line × (written ≡ ended line)
   LineLeft d t Questions written = (line : List ℕ) × IsSpent budget d t line × (written ≡ ended line)
   LineLeft d t (Stopped WriteFailed) written = (line : List ℕ) × (back : List ℕ) × IsLine budget d t line × (written ++ back ≡ ended line)

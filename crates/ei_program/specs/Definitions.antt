@@ -1,60 +1,76 @@
 -- What a definitions file gives.
-use Rattle.std.specs.Prelude.{◌≡◌, ◌⊎◌, ℕ, ◌≤◌, List, [], ◌∷◌, Some, slice_get, sum_by}
+use Rattle.std.specs.Prelude.{◌≡◌, ◌⊎◌, ℕ, ◌≤◌, List, [], ◌∷◌, map, Some, slice_get, sum_by}
 use Rattle.std.specs.List.{flat_map}
 use Rattle.eq_base.specs.Tree.{size}
-use Rattle.eq_base.specs.Rewriting.{System}
-use Rattle.eq_base.specs.declared.head.Head.{Head}
+use Rattle.eq_base.specs.ReadHead.{ReadHead, in_read_class}
+use Rattle.eq_base.specs.Rewriting.{RightSide, pattern, operation, Rule, System}
+use Rattle.eq_base.specs.Operations.{value_of}
+use Rattle.eq_base.specs.declared.rules.Origin.{Origin}
 use Rattle.eq_base.specs.declared.rules.Equation.{Equation}
-use Rattle.eq_base.specs.declared.rules.Right.TheVariants as rights
 use Rattle.term_lex.specs.declared.fault.Fault.{Fault}
 use Rattle.term_lex.specs.declared.fault.FaultKind.TheVariants.{NotYet}
-use Rattle.symbol_table.specs.Table.{Table, Keeps}
-use Rattle.def_file.specs.declared.definitions.Item.{Item}
-use Rattle.def_file.specs.declared.definitions.Item.TheVariants as item
-use Rattle.def_file.specs.declared.definitions.Numbered.{Numbered}
-use Rattle.def_file.specs.declared.definitions.Definitions.{Definitions as FileDefinitions}
+use Rattle.symbol_table.specs.Table.{Table, names_of}
+use Rattle.symbol_table.specs.Reading.{read_rule}
+use Rattle.def_file.specs.AsRead.{ReadItem, Equation as WrittenEquation, Class, ReadNumbered, ReadDefinitions}
 use Rattle.def_file.specs.Trees.{File}
 use Rattle.def_file.specs.Grammar.{IsFileText}
 use Rattle.def_file.specs.Definitions.{Says, IsFileFault}
 use Rattle.def_file.specs.Unbuilt.{unbuilt_of}
-use Rattle.regularity.specs.WellFormed.{right_size}
-use Rattle.sequentiality.specs.Regular.{AreRegular}
-use Rattle.orthogonal_laws.specs.Plain.{plain_system}
+use Rattle.regularity.specs.declared.breaks.Break.{Break}
+use Rattle.sequentiality.specs.Restrictions.{IsViolation}
 use Rattle.ei_program.specs.declared.definitions.Equations.{Equations}
 use Rattle.ei_program.specs.declared.loading.Loaded.{Loaded}
 
--- what is known of symbols, the names of the variables, and the equations
-pub record Definitions : Type 0 where
-  pub table : Table
-  pub variables : List (List ℕ)
-  pub equations : List Equation
+-- an equation, with the item of the file that gives it
+pub record FileEquation : Type 0 where
+  pub rule : Rule ReadHead
+  pub origin : Origin
 
--- the definitions are the same, but for atoms and texts that may have joined the table
-pub record Grows (old new : Definitions) : Type 0 where
-  pub table : Keeps old.table new.table
-  pub variables : new.variables ≡ old.variables
-  pub equations : new.equations ≡ old.equations
+-- what is declared and included, the names of the variables, and the equations
+pub record Definitions : Type 0 where
+  pub names : Table
+  pub variables : List (List ℕ)
+  pub equations : List FileEquation
+
+-- the rule of an equation
+abbrev pub rule_in : FileEquation → Rule ReadHead
+rule_in e = e.rule
 
 -- rewriting by the equations
-abbrev pub system : Definitions → System Head
-system d = plain_system d.equations
+abbrev pub system : Definitions → System ReadHead
+system d = record { rules = map rule_in d.equations; in_class = in_read_class; value_of = value_of }
+
+-- the equations break this restriction
+abbrev pub Breaks : List FileEquation → Break → Type 0
+Breaks equations b = IsViolation in_read_class rule_in equations b
+
+-- the equations break no restriction
+abbrev pub BreaksNone : List FileEquation → Type 0
+BreaksNone equations = (b : Break) → Breaks equations b → ⊥
 
 -- ---- the equations of a file
 
 -- the equation of an item, under the item's number
-abbrev pub equation_in : Item → ℕ → List Equation
-equation_in (item.Equation written) number =
-    record { left = written.left; right = rights.Tree written.right; origin = record { item = number; part = 0 } } ∷ []
-equation_in (item.Class op byte) number = []
+abbrev pub equation_in : ReadItem → ℕ → List FileEquation
+equation_in (WrittenEquation e) number = record {
+  rule = record { left = e.left; right = pattern e.right };
+  origin = record { item = number; part = 0 };
+} ∷ []
+equation_in (Class op byte) number = []
 
 -- the equations of a file's items
-abbrev pub equations_of : List Numbered → List Equation
+abbrev pub equations_of : List ReadNumbered → List FileEquation
 equations_of items = flat_map (λ n. equation_in n.item n.number) items
 
+-- how many cells a right side has; an operation has none
+abbrev pub cells_in : {H : Type 0} → RightSide H → ℕ
+cells_in (pattern p) = size p
+cells_in (operation op) = 0
+
 -- the sides have few enough cells together
-pub record AreSmall (equations : List Equation) : Type 0 where
-  pub left : sum_by (λ e. size e.left) equations ≤ 32768
-  pub right : sum_by (λ e. right_size e.right) equations ≤ 2097152
+pub record AreSmall (equations : List FileEquation) : Type 0 where
+  pub left : sum_by (λ e. size e.rule.left) equations ≤ 32768
+  pub right : sum_by (λ e. cells_in e.rule.right) equations ≤ 2097152
 
 -- ---- a file, by its bytes
 
@@ -71,12 +87,13 @@ pub record IsUnbuilt (text : List ℕ) (byte : ℕ) : Type 0 where
   pub first : slice_get (unbuilt_of file) 0 ≡ Some byte
 
 -- what a file says, taken as equations
-abbrev pub as_equations : FileDefinitions → Definitions
-as_equations read = record { table = read.symbols; variables = read.variables; equations = equations_of read.items }
+abbrev pub as_equations : ReadDefinitions → Definitions
+as_equations read =
+    record { names = read.names; variables = read.variables; equations = equations_of read.items }
 
 -- the file has no fault, no include and no qualifier, and gives these definitions
 pub record Gives (text : List ℕ) (d : Definitions) : Type 0 where
-  pub read : FileDefinitions
+  pub read : ReadDefinitions
   pub says : Says text read
   pub built : IsBuilt text
   pub is : d ≡ as_equations read
@@ -87,7 +104,7 @@ Defines text d = Gives text d × AreSmall d.equations
 
 -- the file has no fault, but an include or a qualifier
 pub record IsNotYet (text : List ℕ) (fault : Fault) : Type 0 where
-  pub read : FileDefinitions
+  pub read : ReadDefinitions
   pub says : Says text read
   pub unbuilt : IsUnbuilt text fault.byte
   pub kind : fault.kind ≡ NotYet
@@ -103,20 +120,30 @@ pub record IsLarge (text : List ℕ) (fault : Fault) : Type 0 where
 abbrev pub RefusesFile : List ℕ → Fault → Type 0
 RefusesFile text fault = IsFileFault text fault ⊎ (IsNotYet text fault ⊎ IsLarge text fault)
 
--- ---- definitions that are in use
-
--- a file gives the definitions, to which atoms and texts have joined, and the equations break no restriction
+-- a file gives the definitions, and the equations break no restriction
 pub record IsAccepted (d : Definitions) : Type 0 where
   pub file : List ℕ
-  pub origin : Definitions
-  pub defines : Defines file origin
-  pub grows : Grows origin d
-  pub regular : AreRegular d.equations
+  pub defines : Defines file d
+  pub regular : BreaksNone d.equations
 
--- what a program holds that loaded a file
-abbrev pub definitions_of : Loaded → Definitions
-definitions_of l = record { table = l.symbols; variables = l.variables; equations = l.regular }
+-- ---- what a program holds
+
+-- the equation, as the table reads it
+abbrev pub equation_read : Table → Equation → FileEquation
+equation_read table e = record { rule = read_rule table e; origin = e.origin }
 
 -- what the reader of a file holds
 abbrev pub definitions_in : Equations → Definitions
-definitions_in e = record { table = e.symbols; variables = e.variables; equations = e.rules }
+definitions_in e = record {
+  names = names_of e.symbols;
+  variables = e.variables;
+  equations = map (equation_read e.symbols) e.rules;
+}
+
+-- what a program holds that loaded a file
+abbrev pub definitions_of : Loaded → Definitions
+definitions_of l = record {
+  names = names_of l.symbols;
+  variables = l.variables;
+  equations = map (equation_read l.symbols) l.regular;
+}

@@ -1,7 +1,7 @@
 -- The terms of an input.
 use Rattle.std.specs.Prelude.{◌≡◌, ◌⊎◌, ℕ, ◌+◌, ◌<◌, ◌≤◌, ◌^◌, List, [], ◌∷◌, length, drop}
 use Rattle.eq_base.specs.Tree.{Tree}
-use Rattle.eq_base.specs.declared.head.Head.{Head}
+use Rattle.eq_base.specs.ReadHead.{ReadHead}
 use Rattle.term_lex.specs.Gaps.{IsGap}
 use Rattle.term_lex.specs.declared.fault.Fault.{Fault}
 use Rattle.term_lex.specs.declared.fault.FaultKind.TheVariants.{NotYet, TermLong}
@@ -24,12 +24,12 @@ abbrev pub StandsNext : List ℕ → ℕ → ℕ → Type 0
 StandsNext text place byte = IsNextByte text place byte × (byte < length text)
 
 -- the terms, each with its dot, stand one after another between two places of the text
-abbrev pub Terms : Table → List ℕ → ℕ → List (Tree Head) → ℕ → Type 0
+abbrev pub Terms : Table → List ℕ → ℕ → List (Tree ReadHead) → ℕ → Type 0
 Terms table text place [] last = place ≡ last
 Terms table text place (t ∷ ts) last = (next : ℕ) × ReadsTerm table text place t next × Terms table text next ts last
 
 -- the text holds these terms, one at most, and nothing else but blanks and comments
-pub record Holds (table : Table) (text : List ℕ) (terms : List (Tree Head)) : Type 0 where
+pub record Holds (table : Table) (text : List ℕ) (terms : List (Tree ReadHead)) : Type 0 where
   pub last : ℕ
   pub reads : Terms table text 0 terms last
   pub nothing_left : NothingLeft text last
@@ -37,7 +37,7 @@ pub record Holds (table : Table) (text : List ℕ) (terms : List (Tree Head)) : 
 
 -- other bytes follow the first term and its dot
 pub record MoreFollows (table : Table) (text : List ℕ) (fault : Fault) : Type 0 where
-  pub term : Tree Head
+  pub term : Tree ReadHead
   pub end : ℕ
   pub reads : ReadsTerm table text 0 term end
   pub more : StandsNext text end fault.byte

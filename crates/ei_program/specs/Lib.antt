@@ -4,6 +4,7 @@ pub mod Outcomes
 pub mod Words
 pub mod Taking
 pub mod Definitions
+pub mod Gathering
 pub mod Input
 pub mod Lines
 pub mod Run

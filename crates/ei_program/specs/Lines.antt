@@ -2,43 +2,43 @@
 use Rattle.std.specs.Prelude.{◌≡◌, ◌⊎◌, ℕ, ◌<◌, ◌≤◌, List, [], ◌∷◌, ◌++◌, flat_map, length, codes, decimal}
 use Rattle.eq_base.specs.Tree.{Tree}
 use Rattle.eq_base.specs.Rewriting.{IsDerivable, IsNormal}
-use Rattle.eq_base.specs.declared.head.Head.{Head}
+use Rattle.eq_base.specs.ReadHead.{ReadHead}
 use Rattle.standmath.specs.Printing.{print}
 use Rattle.orthogonal_laws.specs.Strategy.{PlainRun, HasLength}
 use Rattle.ei_program.specs.Definitions.{Definitions, system}
 
 -- the line is the print of a normal term that is derivable from the term, and the only one; its plain run reaches it within the budget
-pub record IsNormalForm (budget : ℕ) (d : Definitions) (t : Tree Head) (line : List ℕ) : Type 0 where
-  pub form : Tree Head
+pub record IsNormalForm (budget : ℕ) (d : Definitions) (t : Tree ReadHead) (line : List ℕ) : Type 0 where
+  pub form : Tree ReadHead
   pub derivable : IsDerivable (system d) t form
   pub normal : IsNormal (system d) form
-  pub only : (other : Tree Head) → IsDerivable (system d) t other → IsNormal (system d) other → other ≡ form
+  pub only : (other : Tree ReadHead) → IsDerivable (system d) t other → IsNormal (system d) other → other ≡ form
   pub steps : ℕ
   pub length : HasLength (system d) t steps form
   pub within : steps ≤ budget
-  pub printed : line ≡ print d.table form
+  pub printed : line ≡ print d.names form
 
 -- the line says that the whole budget was used, and a redex is left; where some derivation ends in a normal form, the plain run ends in it, and is longer than the budget
-pub record IsSpent (budget : ℕ) (d : Definitions) (t : Tree Head) (line : List ℕ) : Type 0 where
-  pub last : Tree Head
+pub record IsSpent (budget : ℕ) (d : Definitions) (t : Tree ReadHead) (line : List ℕ) : Type 0 where
+  pub last : Tree ReadHead
   pub run : PlainRun (system d) t budget last
   pub unfinished : IsNormal (system d) last → ⊥
-  pub longer : (form : Tree Head) → IsDerivable (system d) t form → IsNormal (system d) form → (steps : ℕ) × HasLength (system d) t steps form × (budget < steps)
+  pub longer : (form : Tree ReadHead) → IsDerivable (system d) t form → IsNormal (system d) form → (steps : ℕ) × HasLength (system d) t steps form × (budget < steps)
   pub written : line ≡ codes "? spent " ++ decimal budget
 
 -- the line answers the term
-abbrev pub IsLine : ℕ → Definitions → Tree Head → List ℕ → Type 0
+abbrev pub IsLine : ℕ → Definitions → Tree ReadHead → List ℕ → Type 0
 IsLine budget d t line = IsNormalForm budget d t line ⊎ IsSpent budget d t line
 
 -- one line for each term, in order
-abbrev pub AreLines : (Tree Head → List ℕ → Type 0) → List (Tree Head) → List (List ℕ) → Type 0
+abbrev pub AreLines : (Tree ReadHead → List ℕ → Type 0) → List (Tree ReadHead) → List (List ℕ) → Type 0
 AreLines Fits [] [] = Unit {0}
 AreLines Fits [] (line ∷ lines) = ⊥
 AreLines Fits (t ∷ ts) [] = ⊥
 AreLines Fits (t ∷ ts) (line ∷ lines) = Fits t line × AreLines Fits ts lines
 
 -- some line is of this kind
-abbrev pub SomeLine : (Tree Head → List ℕ → Type 0) → List (Tree Head) → List (List ℕ) → Type 0
+abbrev pub SomeLine : (Tree ReadHead → List ℕ → Type 0) → List (Tree ReadHead) → List (List ℕ) → Type 0
 SomeLine Fits [] lines = ⊥
 SomeLine Fits (t ∷ ts) [] = ⊥
 SomeLine Fits (t ∷ ts) (line ∷ lines) = Fits t line ⊎ SomeLine Fits ts lines

@@ -6,17 +6,20 @@ use Rattle.std.specs.Prelude.{Vec}
 use Rattle.std.specs.declared.alloc.Global.{Global}
 use Rattle.eq_ports.specs.Causes.{Rose}
 use Rattle.term_lex.specs.declared.fault.FaultKind.TheVariants.{FileLong, NotYet}
+use Rattle.symbol_table.specs.Reading.{AreLive}
 use Rattle.def_file.specs.declared.definitions.Definitions.{Definitions as FileDefinitions}
+use Rattle.def_file.specs.AsRead.{definitions_read}
+use Rattle.sequentiality.specs.Regular.{AreRegular}
+use Rattle.orthogonal_laws.specs.Operations.{AreTruthsKnown}
 use Rattle.def_file.specs.declared.error.FileError.{FileError}
 use Rattle.def_file.specs.declared.error.FileError.TheVariants.{Refused}
-use Rattle.sequentiality.specs.Regular.{AreRegular, IsRefused as IsBroken}
-use Rattle.sequentiality.specs.declared.regular.AdmitError.TheVariants.{Broken as BrokenRules}
 use Rattle.ei_program.specs.declared.stop.Stop.TheVariants.{NoMemory, ReadFailed, WriteFailed}
 use Rattle.ei_program.specs.declared.outcome.Outcome.{Outcome}
 use Rattle.ei_program.specs.declared.outcome.Outcome.TheVariants.{BadWords, FileRefused, Broken, Stopped}
 use Rattle.ei_program.specs.declared.definitions.Equations.{Equations}
 use Rattle.ei_program.specs.declared.loading.Loaded.{Loaded}
-use Rattle.ei_program.specs.Definitions.{Definitions, equations_of, AreSmall, as_equations, Defines, RefusesFile, definitions_in, definitions_of}
+use Rattle.ei_program.specs.Definitions.{Definitions, equations_of, AreSmall, as_equations, BreaksNone, IsAccepted, Defines, RefusesFile, definitions_in, definitions_of}
+use Rattle.ei_program.specs.Restrictions.{AreBroken}
 
 -- these are the bytes of the file; or it is not there, or not taken whole
 abbrev pub IsFileTaken : Option (List ℕ) → Result (Vec ℕ Global) Outcome → Type 0
@@ -29,22 +32,38 @@ IsFileTaken found (Err outcome) = ⊥
 
 -- what a file says is taken as equations, which are not too large; or they are; or memory ran out
 abbrev pub AreGathered : FileDefinitions → Result Equations FileError → Type 0
-AreGathered read (Ok equations) = (definitions_in equations ≡ as_equations read) × AreSmall (equations_of read.items)
-AreGathered read (Err (Refused fault)) = (¬ AreSmall (equations_of read.items)) × (fault ≡ record { kind = NotYet; byte = 0 })
+AreGathered read (Ok equations) =
+    (definitions_in equations ≡ as_equations (definitions_read read))
+    × AreSmall (equations_of (definitions_read read).items)
+AreGathered read (Err (Refused fault)) =
+    (¬ AreSmall (equations_of (definitions_read read).items)) × (fault ≡ record { kind = NotYet; byte = 0 })
 AreGathered read (Err error) = Unit {0}
+
+-- each number in the equations is live, and the truth values are declared where the value of an operation is one
+pub record AreUsable (e : Equations) : Type 0 where
+  pub live : AreLive e.symbols e.rules
+  pub truths : AreTruthsKnown e.symbols e.rules
+
+-- the equations that a program holds are accepted, keep the restrictions, and can be used
+pub record IsReady (l : Loaded) : Type 0 where
+  pub accepted : IsAccepted (definitions_of l)
+  pub regular : AreRegular l.regular
+  pub live : AreLive l.symbols l.regular
+  pub truths : AreTruthsKnown l.symbols l.regular
 
 -- the equations break no restriction and are as before; or they break these; or memory ran out
 abbrev pub IsAdmitted : Equations → Result Loaded Outcome → Type 0
-IsAdmitted equations (Ok loaded) = (definitions_of loaded ≡ definitions_in equations) × AreRegular equations.rules
-IsAdmitted equations (Err (Broken breaks rules)) = IsBroken equations.rules (BrokenRules breaks rules)
+IsAdmitted equations (Ok loaded) = (definitions_of loaded ≡ definitions_in equations) × IsReady loaded
+IsAdmitted equations (Err (Broken breaks rules)) = AreBroken (definitions_in equations).equations breaks rules
 IsAdmitted equations (Err (Stopped NoMemory)) = Unit {0}
 IsAdmitted equations (Err outcome) = ⊥
 
 -- the file gives equations that break no restriction; or it is not accepted, with this outcome
 abbrev pub IsLoaded : Option (List ℕ) → Result Loaded Outcome → Type 0
-IsLoaded found (Ok loaded) = (file : List ℕ) × (found ≡ Some file) × Defines file (definitions_of loaded) × AreRegular loaded.regular
+IsLoaded found (Ok loaded) = (file : List ℕ) × (found ≡ Some file) × Defines file (definitions_of loaded)
+    × BreaksNone (definitions_of loaded).equations
 IsLoaded found (Err (FileRefused fault)) = (file : List ℕ) × (found ≡ Some file) × RefusesFile file fault
-IsLoaded found (Err (Broken breaks rules)) = (file : List ℕ) × (d : Definitions) × (found ≡ Some file) × Defines file d × IsBroken d.equations (BrokenRules breaks rules)
+IsLoaded found (Err (Broken breaks rules)) = (file : List ℕ) × (d : Definitions) × (found ≡ Some file) × Defines file d × AreBroken d.equations breaks rules
 IsLoaded found (Err (Stopped NoMemory)) = Unit {0}
 IsLoaded found (Err (Stopped ReadFailed)) = Unit {0}
 IsLoaded found (Err outcome) = ⊥

@@ -8,7 +8,8 @@ use Rattle.ei_program.specs.declared.stop.Stop.TheVariants.{NoMemory, ReadFailed
 use Rattle.ei_program.specs.declared.status.Status.{Status}
 use Rattle.regularity.specs.Listing.{Lists}
 use Rattle.sequentiality.specs.Violations.{IsViolation}
-use Rattle.ei_program.specs.Restrictions.{broken_text}
+use Rattle.ei_program.specs.Restrictions.{origin_of, broken_text}
+use Rattle.eq_base.specs.Rules.{rule_of}
 
 abbrev pub status_of : Outcome → Status
 status_of Answered = Status.Answered
@@ -31,7 +32,7 @@ message_of Answered = []
 message_of Questions = []
 message_of BadWords = codes "ei: bad command line\n"
 message_of (FileRefused fault) = refused_text (codes "equations") fault
-message_of (Broken breaks rules) = broken_text rules breaks
+message_of (Broken breaks rules) = broken_text rule_of origin_of rules breaks
 message_of (TermRefused fault) = refused_text (codes "term") fault
 message_of (Stopped NoMemory) = codes "ei: no memory\n"
 message_of (Stopped ReadFailed) = codes "ei: read failed\n"

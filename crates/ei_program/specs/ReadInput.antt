@@ -5,9 +5,10 @@ use Rattle.std.specs.declared.option.Option.TheVariants.{None, Some}
 use Rattle.eq_base.specs.Tree.{Tree}
 use Rattle.eq_base.specs.declared.head.Head.{Head}
 use Rattle.symbol_table.specs.Table.{Table}
+use Rattle.symbol_table.specs.Reading.{read, IsLiveTerm}
 use Rattle.ei_program.specs.Input.{Holds}
 
--- the text holds no term, or this one alone
-abbrev pub IsInput : Table → List ℕ → Option (Tree Head) → Type 0
-IsInput table text None = Holds table text []
-IsInput table text (Some t) = Holds table text (t ∷ [])
+-- by these names the text holds no term, or this one alone, as the table reads it, with live numbers
+abbrev pub IsInput : (names table : Table) → List ℕ → Option (Tree Head) → Type 0
+IsInput names table text None = Holds names text []
+IsInput names table text (Some t) = Holds names text (read table t ∷ []) × IsLiveTerm table t

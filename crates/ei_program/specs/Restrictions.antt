@@ -2,12 +2,13 @@
 use Rattle.std.specs.Prelude.{◌≡◌, ℕ, zero, suc, ◌+◌, ◌-◌, ◌<◌, List, [], ◌∷◌, ◌++◌, flat_map, map, length, take, codes, decimal, slice_get, Option, Some, nat_lt, ◌==◌, if◌then◌else◌}
 use Rattle.eq_base.specs.Tree.{Tree, Position, size, nth_position}
 use Rattle.eq_base.specs.Pattern.{PatternCell}
-use Rattle.eq_base.specs.declared.head.Head.{Head}
+use Rattle.eq_base.specs.Rewriting.{RightSide, pattern, operation, Rule}
+use Rattle.eq_base.specs.Rules.{rule_of}
 use Rattle.eq_base.specs.declared.rules.Origin.{Origin}
-use Rattle.eq_base.specs.declared.rules.Right.{Right}
-use Rattle.eq_base.specs.declared.rules.Right.TheVariants as rights
 use Rattle.eq_base.specs.declared.rules.Equation.{Equation}
 use Rattle.regularity.specs.declared.breaks.Break.{Break}
+use Rattle.regularity.specs.Listing.{Lists}
+use Rattle.ei_program.specs.Definitions.{FileEquation, rule_in, Breaks}
 
 -- the number of a part, behind a dot, where the item has parts
 abbrev pub part_name : ℕ → List ℕ
@@ -32,13 +33,9 @@ abbrev pub position_name : Position → List ℕ
 position_name q = dotted (map (λ i. i + 1) q)
 
 -- the right side, where it is a pattern, and else the left side
-abbrev pub right_of : Tree (PatternCell Head) → Right → Tree (PatternCell Head)
-right_of left (rights.Tree p) = p
-right_of left (rights.Schema op) = left
-
--- the side at which a break of the restriction stands: the right side for RE2, and else the left side
-abbrev pub broken_side : ℕ → Equation → Tree (PatternCell Head)
-broken_side restriction e = if restriction == 2 then right_of e.left e.right else e.left
+abbrev pub right_of : {H : Type 0} → Tree (PatternCell H) → RightSide H → Tree (PatternCell H)
+right_of left (pattern p) = p
+right_of left (operation op) = left
 
 -- where a break of the restriction stands; RE3 stands at the root, which is not told
 abbrev pub broken_at : ℕ → List ℕ → List ℕ
@@ -56,20 +53,6 @@ joined_line restriction name at with_other = codes "RE" ++ decimal restriction +
 abbrev pub broken_line : ℕ → (name place other : List ℕ) → List ℕ
 broken_line restriction name place other = joined_line restriction name (broken_at restriction place) (broken_with restriction other)
 
--- the line of a break by two equations
-abbrev pub line_of : Break → Equation → Equation → List ℕ
-line_of b one other =
-    broken_line b.restriction (origin_name one.origin) (position_name (nth_position (broken_side b.restriction one) b.place)) (origin_name other.origin)
-
--- the same where the two equations are in the list
-abbrev pub line_by : Break → Option Equation → Option Equation → List ℕ
-line_by b (Some one) (Some other) = line_of b one other
-line_by b one other = []
-
--- the line of a break
-abbrev pub break_line : List Equation → Break → List ℕ
-break_line equations b = line_by b (slice_get equations b.first) (slice_get equations b.second)
-
 -- how many breaks are told
 abbrev pub most_told : ℕ
 most_told = 50
@@ -79,12 +62,48 @@ abbrev pub more_line : ℕ → List ℕ
 more_line zero = []
 more_line (suc n) = codes "ei: " ++ decimal (suc n) ++ codes " more\n"
 
--- what is told of breaks: how many they are, the first of them, and how many more there are
-abbrev pub broken_text : List Equation → List Break → List ℕ
-broken_text equations breaks =
-    codes "ei: restrictions broken: " ++ decimal (length breaks) ++ codes "\n"
-    ++ flat_map (break_line equations) (take most_told breaks)
-    ++ more_line (length breaks - most_told)
+-- the side at which a break of the restriction stands: the right side for RE2, where it is a pattern, and else the left
+-- side
+abbrev pub broken_side : {H : Type 0} → ℕ → Rule H → Tree (PatternCell H)
+broken_side restriction r = if restriction == 2 then right_of r.left r.right else r.left
+
+-- Equations have rules and origins.
+module _ {H E : Type 0} (rule : E → Rule H) (origin : E → Origin) where
+  -- the line of a break by two equations
+  abbrev pub line_of : Break → E → E → List ℕ
+  line_of b one other =
+      broken_line b.restriction (origin_name (origin one))
+      (position_name (nth_position (broken_side b.restriction (rule one)) b.place)) (origin_name (origin other))
+
+  -- the same where the two equations are in the list
+  abbrev pub line_by : Break → Option E → Option E → List ℕ
+  line_by b (Some one) (Some other) = line_of b one other
+  line_by b one other = []
+
+  -- the line of a break
+  abbrev pub break_line : List E → Break → List ℕ
+  break_line equations b = line_by b (slice_get equations b.first) (slice_get equations b.second)
+
+  -- what is told of breaks: how many they are, the first of them, and how many more there are
+  abbrev pub broken_text : List E → List Break → List ℕ
+  broken_text equations breaks =
+      codes "ei: restrictions broken: " ++ decimal (length breaks) ++ codes "\n"
+      ++ flat_map (break_line equations) (take most_told breaks)
+      ++ more_line (length breaks - most_told)
+
+-- the origin of an equation
+abbrev pub origin_of : Equation → Origin
+origin_of e = e.origin
+
+abbrev pub origin_in : FileEquation → Origin
+origin_in e = e.origin
+
+-- these are the breaks of the equations, of which there is one at least; the rules that came back tell of them as the
+-- equations do
+pub record AreBroken (equations : List FileEquation) (breaks : List Break) (rules : List Equation) : Type 0 where
+  pub listed : Lists (Breaks equations) breaks
+  pub some : 0 < length breaks
+  pub told : broken_text rule_of origin_of rules breaks ≡ broken_text rule_in origin_in equations breaks
 
 -- the equations of the break are in the list, and its place is one of the side at which it stands
 pub record IsInList (equations : List Equation) (b : Break) : Type 0 where
@@ -92,4 +111,4 @@ pub record IsInList (equations : List Equation) (b : Break) : Type 0 where
   pub other : Equation
   pub one_listed : slice_get equations b.first ≡ Some one
   pub other_listed : slice_get equations b.second ≡ Some other
-  pub there : b.place < size (broken_side b.restriction one)
+  pub there : b.place < size (broken_side b.restriction (rule_of one))

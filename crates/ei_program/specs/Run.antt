@@ -4,9 +4,7 @@ use Rattle.std.specs.declared.option.Option.{Option}
 use Rattle.std.specs.declared.option.Option.TheVariants.{Some}
 use Rattle.std.specs.Io.KnownBytes.{Appends}
 use Rattle.eq_base.specs.Tree.{Tree}
-use Rattle.eq_base.specs.declared.head.Head.{Head}
-use Rattle.sequentiality.specs.Regular.{AreRegular, IsRefused as IsBroken}
-use Rattle.sequentiality.specs.declared.regular.AdmitError.TheVariants.{Broken as BrokenRules}
+use Rattle.eq_base.specs.ReadHead.{ReadHead}
 use Rattle.ei_program.specs.declared.words.Task.{Task}
 use Rattle.ei_program.specs.declared.words.Task.TheVariants.{Answer, Check}
 use Rattle.ei_program.specs.declared.stop.Stop.{Stop}
@@ -14,7 +12,8 @@ use Rattle.ei_program.specs.declared.stop.Stop.TheVariants.{NoMemory, ReadFailed
 use Rattle.ei_program.specs.declared.outcome.Outcome.{Outcome}
 use Rattle.ei_program.specs.declared.outcome.Outcome.TheVariants.{Answered, Questions, BadWords, FileRefused, Broken, TermRefused, Stopped}
 use Rattle.ei_program.specs.Words.{Asks, IsCommandLine}
-use Rattle.ei_program.specs.Definitions.{Definitions, Defines, RefusesFile, Grows}
+use Rattle.ei_program.specs.Definitions.{Definitions, Defines, RefusesFile, BreaksNone}
+use Rattle.ei_program.specs.Restrictions.{AreBroken}
 use Rattle.ei_program.specs.Input.{Terms, Holds, IsRefused, RefusesInput}
 use Rattle.ei_program.specs.Lines.{IsNormalForm, IsSpent, IsLine, AreLines, SomeLine, ended, bytes_of, accepted_line}
 
@@ -39,21 +38,21 @@ pub record HasDefinitions (given : Given) (task : Task) (d : Definitions) : Type
 -- the file gives these definitions, and they break no restriction
 pub record Accepts (given : Given) (task : Task) (d : Definitions) : Type 0 where
   pub definitions : HasDefinitions given task d
-  pub regular : AreRegular d.equations
+  pub regular : BreaksNone d.equations
 
 -- ---- the answering of a text's terms
 
 -- all terms of the text are answered
-pub record Answers (Fits : Tree Head → List ℕ → Type 0) (d : Definitions) (text : List ℕ) (lines : List (List ℕ)) : Type 0 where
-  pub terms : List (Tree Head)
-  pub reads : Holds d.table text terms
+pub record Answers (Fits : Tree ReadHead → List ℕ → Type 0) (d : Definitions) (text : List ℕ) (lines : List (List ℕ)) : Type 0 where
+  pub terms : List (Tree ReadHead)
+  pub reads : Holds d.names text terms
   pub fit : AreLines Fits terms lines
 
 -- the first terms of the text are answered
 pub record AnswersFirst (budget : ℕ) (d : Definitions) (text : List ℕ) (lines : List (List ℕ)) : Type 0 where
-  pub terms : List (Tree Head)
+  pub terms : List (Tree ReadHead)
   pub last : ℕ
-  pub reads : Terms d.table text 0 terms last
+  pub reads : Terms d.names text 0 terms last
   pub fit : AreLines (IsLine budget d) terms lines
 
 -- all terms are answered, and some by `? spent`
@@ -65,7 +64,7 @@ pub record AnswersInPart (budget : ℕ) (d : Definitions) (text : List ℕ) (lin
 abbrev pub TextLeft : ℕ → Definitions → List ℕ → Outcome → List ℕ → Type 0
 TextLeft budget d text Answered written = (lines : List (List ℕ)) × Answers (IsNormalForm budget d) d text lines × (written ≡ bytes_of lines)
 TextLeft budget d text Questions written = (lines : List (List ℕ)) × AnswersInPart budget d text lines × (written ≡ bytes_of lines)
-TextLeft budget d text (TermRefused fault) written = IsRefused d.table text fault × (written ≡ [])
+TextLeft budget d text (TermRefused fault) written = IsRefused d.names text fault × (written ≡ [])
 -- whole lines of the first terms
 TextLeft budget d text (Stopped NoMemory) written = (lines : List (List ℕ)) × AnswersFirst budget d text lines × (written ≡ bytes_of lines)
 -- a front of the lines of the first terms
@@ -94,7 +93,7 @@ abbrev pub InputLeft : ℕ → Definitions → List ℕ → Option (List ℕ) �
 InputLeft budget d input left Answered written = (left ≡ Some []) × (length input ≤ 2 ^ 24) × TextLeft budget d input Answered written
 InputLeft budget d input left Questions written = (left ≡ Some []) × (length input ≤ 2 ^ 24) × TextLeft budget d input Questions written
 -- longer than may be taken, or refused
-InputLeft budget d input left (TermRefused fault) written = RefusesInput d.table input fault × (written ≡ [])
+InputLeft budget d input left (TermRefused fault) written = RefusesInput d.names input fault × (written ≡ [])
 InputLeft budget d input left (Stopped ReadFailed) written = CutLeft budget d input left written
 InputLeft budget d input left outcome written = TakenLeft budget d input outcome written
 
@@ -120,11 +119,9 @@ IsChecked d outcome written = ⊥
 -- what a run leaves that accepts its file: the input is answered, or the file is told of and the input is not touched
 pub record AnswersTask (given : Given) (left : Option (List ℕ)) (outcome : Outcome) (written : List ℕ) : Type 0 where
   pub definitions : Definitions
-  pub grown : Definitions
   pub budget : ℕ
   pub accepts : Accepts given (Answer budget) definitions
-  pub grows : Grows definitions grown
-  pub answered : InputLeft budget grown given.input left outcome written
+  pub answered : InputLeft budget definitions given.input left outcome written
 
 pub record ChecksTask (given : Given) (left : Option (List ℕ)) (outcome : Outcome) (written : List ℕ) : Type 0 where
   pub definitions : Definitions
@@ -137,7 +134,7 @@ abbrev pub Leaves : Given → Option (List ℕ) → Outcome → List ℕ → Typ
 Leaves given left BadWords written = (¬ IsCommandLine given.words) × Untouched given left written
 Leaves given left (FileRefused fault) written = ((task : Task) × (bytes : List ℕ) × HasFile given task bytes × RefusesFile bytes fault) × Untouched given left written
 Leaves given left (Broken breaks rules) written =
-    ((task : Task) × (d : Definitions) × HasDefinitions given task d × IsBroken d.equations (BrokenRules breaks rules)) × Untouched given left written
+    ((task : Task) × (d : Definitions) × HasDefinitions given task d × AreBroken d.equations breaks rules) × Untouched given left written
 Leaves given left outcome written =
     AnswersTask given left outcome written ⊎ (ChecksTask given left outcome written ⊎ (StopsEarly outcome × Untouched given left written))
 

@@ -1,11 +1,12 @@
 // The answering of the terms of a text.
 ghost use Rattle.std.specs.Prelude.{ℕ, IfOk};
-ghost use Rattle.standmath.specs.Printing.{IsPrintable};
-ghost use Rattle.ei_program.specs.Definitions.{Definitions, definitions_of, IsAccepted, Grows};
+ghost use Rattle.symbol_table.specs.Reading.{read, IsLiveTerm};
+ghost use Rattle.ei_program.specs.Definitions.{Definitions, definitions_of};
+ghost use Rattle.ei_program.specs.Loading.{IsReady};
 ghost use Rattle.ei_program.specs.Run.{TextLeft, LeavesOn};
 ghost use Rattle.ei_program.specs.Answering.{IsLineOf, IsWriteOutcome, LineLeft};
 ghost use Rattle.eq_base.specs.Tree.{Tree};
-ghost use Rattle.eq_base.specs.declared.head.Head.{Head};
+ghost use Rattle.eq_base.specs.ReadHead.{ReadHead};
 
 use crate::input::read_input;
 use crate::loading::Loaded;
@@ -26,12 +27,14 @@ pub struct Line {
 }
 
 /// The line that answers a term.
-fn line_of(alloc: Global, loaded: &Loaded, budget: u64, term: Flat) -> Result<Line, NoMemory>
-    requires accepted { IsAccepted (definitions_of loaded.now) }
-    requires printable { IsPrintable loaded.now.symbols term }
-    ensures { IfOk result (IsLineOf budget (definitions_of loaded.now) term) }
+fn line_of(alloc: Global, loaded: &mut Loaded, budget: u64, term: Flat) -> Result<Line, NoMemory>
+    requires ready { IsReady loaded.old }
+    requires live { IsLiveTerm loaded.old.symbols term }
+    ensures { IfOk result
+        (IsLineOf budget (definitions_of loaded.old) (read loaded.old.symbols term)) }
 {
-    match plain_run(alloc, &loaded.regular, term, budget)? {
+    loaded.symbols.has_one_number_each();
+    match plain_run(alloc, &loaded.regular, &mut loaded.symbols, term, budget)? {
         PlainEnd::Normal(form, _) => {
             let mut text = Vec::new(alloc);
             write_term(alloc, &loaded.symbols, &form, 0, &mut text)?;
@@ -53,7 +56,7 @@ fn line_of(alloc: Global, loaded: &Loaded, budget: u64, term: Flat) -> Result<Li
 
 /// Writes a line whole.
 fn write_line<O: Sink>(line: &Line, output: &mut O) -> Outcome
-    ensures left { (budget : ℕ) (d : Definitions) (t : Tree Head) → IsLineOf budget d t line.now → LeavesOn (LineLeft budget d t result) (O.taken output.old) (O.taken output.new) }
+    ensures left { (budget : ℕ) (d : Definitions) (t : Tree ReadHead) → IsLineOf budget d t line.now → LeavesOn (LineLeft budget d t result) (O.taken output.old) (O.taken output.new) }
     ensures count { IsWriteOutcome (O.faults output.old) (O.faults output.new) result }
 {
     if write_whole(output, &line.text).is_err() {
@@ -74,9 +77,9 @@ pub fn answer_text<O: Sink>(
     text: &[u8],
     output: &mut O,
 ) -> Outcome
-    requires { IsAccepted (definitions_of loaded.old) }
-    ensures left { LeavesOn (TextLeft budget (definitions_of loaded.new) text.now result) (O.taken output.old) (O.taken output.new) }
-    ensures grows { Grows (definitions_of loaded.old) (definitions_of loaded.new) }
+    requires { IsReady loaded.old }
+    ensures left { LeavesOn (TextLeft budget (definitions_of loaded.old) text.now result)
+        (O.taken output.old) (O.taken output.new) }
     ensures count { IsWriteOutcome (O.faults output.old) (O.faults output.new) result }
 {
     let term = match read_input(alloc, &mut loaded.symbols, text) {

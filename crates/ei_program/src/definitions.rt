@@ -1,10 +1,12 @@
 // The equations of a definitions file.
 ghost use Rattle.std.specs.Prelude.{◌≡◌, ◌↔◌, [], ◌∷◌, IfOk, IfErr, IsTrue};
 ghost use Rattle.regularity.specs.WellFormed.{right_size};
+ghost use Rattle.def_file.specs.AsRead.{AreLiveItems};
 ghost use Rattle.def_file.specs.Errors.{IfRefused};
 ghost use Rattle.def_file.specs.declared.definitions.Item.TheVariants as items;
-ghost use Rattle.ei_program.specs.Loading.{AreGathered};
-ghost use Rattle.ei_program.specs.Definitions.{equation_in, equations_of, AreSmall, Defines, RefusesFile, definitions_in};
+ghost use Rattle.ei_program.specs.Gathering.{numbered_equation, numbered_equations, HaveSmallSides};
+ghost use Rattle.ei_program.specs.Loading.{AreGathered, AreUsable};
+ghost use Rattle.ei_program.specs.Definitions.{Defines, RefusesFile, definitions_in};
 
 use def_file::{
     Definitions, FileError, Item, Items, Numbered, Written, read_definitions, unbuilt_at,
@@ -33,7 +35,7 @@ pub struct Equations {
 
 /// The equations of items. No side is copied.
 fn rules_of(alloc: Global, items: Items) -> Result<Rules, NoMemory>
-    ensures { IfOk result (λ rules. rules ≡ equations_of items) }
+    ensures { IfOk result (λ rules. rules ≡ numbered_equations items) }
 {
     let mut rules = Rules::new(alloc);
     for Numbered { item, number } in items.into_list() {
@@ -46,7 +48,7 @@ fn rules_of(alloc: Global, items: Items) -> Result<Rules, NoMemory>
 
 /// The equation of a written one, which has no qualifiers, under the number of its item.
 fn equation_of(written: Written, item: u32) -> Equation
-    ensures { equation_in (items.Equation written) item ≡ result ∷ [] }
+    ensures { numbered_equation (items.Equation written) item ≡ result ∷ [] }
 {
     let Written { left, right, .. } = written;
     Equation {
@@ -68,7 +70,7 @@ fn right_len(right: &Right) -> usize
 
 /// Whether the equations have few enough cells together.
 fn are_small(rules: &Rules) -> bool
-    ensures { IsTrue result ↔ AreSmall rules.now }
+    ensures { IsTrue result ↔ HaveSmallSides rules.now }
 {
     let mut left_room = LEFT_CELLS;
     let mut right_room = RIGHT_CELLS;
@@ -101,7 +103,9 @@ fn not_yet(byte: usize) -> FileError
 ///
 /// `NotYet` at byte 0 where they have too many cells; out of memory.
 fn equations_in(alloc: Global, definitions: Definitions) -> Result<Equations, FileError>
-    ensures { AreGathered definitions result }
+    requires { AreLiveItems definitions.symbols definitions.items }
+    ensures gathered { AreGathered definitions result }
+    ensures usable { IfOk result AreUsable }
 {
     let Definitions {
         symbols,
@@ -129,6 +133,7 @@ fn equations_in(alloc: Global, definitions: Definitions) -> Result<Equations, Fi
 /// 32,768 cells on the left or 2,097,152 on the right; out of memory.
 pub fn read_equations(alloc: Global, text: &[u8]) -> Result<Equations, FileError>
     ensures ok { IfOk result (λ equations. Defines text.now (definitions_in equations)) }
+    ensures usable { IfOk result AreUsable }
     ensures refused { IfErr result (IfRefused (RefusesFile text.now)) }
 {
     let definitions = read_definitions(alloc, text, Syntax::Standmath)?;

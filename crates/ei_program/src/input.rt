@@ -1,7 +1,7 @@
 // The term of an input.
 ghost use Rattle.std.specs.Prelude.{◌≡◌, ◌≤◌, ◌+◌, length, IfOk, IfErr, IfSome, IfNone};
-ghost use Rattle.symbol_table.specs.Table.{Keeps};
-ghost use Rattle.standmath.specs.Answering.{IfRefused};
+ghost use Rattle.symbol_table.specs.Table.{Keeps, names_of};
+ghost use Rattle.written_terms.specs.Answering.{IfRefused};
 ghost use Rattle.ei_program.specs.Input.{NothingLeft, StandsNext, IsRefused};
 ghost use Rattle.ei_program.specs.ReadInput.{IsInput};
 
@@ -32,8 +32,8 @@ pub fn read_input(
     symbols: &mut Symbols,
     text: &[u8],
 ) -> Result<Option<Flat>, ReadError>
-    ensures holds { IfOk result (IsInput symbols.new text.now) }
-    ensures refused { IfErr result (IfRefused (IsRefused symbols.new text.now)) }
+    ensures holds { IfOk result (IsInput (names_of symbols.old) symbols.new text.now) }
+    ensures refused { IfErr result (IfRefused (IsRefused (names_of symbols.old) text.now)) }
     ensures keeps { Keeps symbols.old symbols.new }
 {
     let Some(_) = next_byte(text, 0) else {

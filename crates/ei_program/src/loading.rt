@@ -1,8 +1,8 @@
 // The definitions file: taken whole, read, and checked.
 ghost use Rattle.std.specs.Prelude.{◌≡◌, ℕ, List, Option, IfOk, IfErr, Some};
-ghost use Rattle.ei_program.specs.Definitions.{Defines, definitions_in, definitions_of, IsAccepted};
+ghost use Rattle.ei_program.specs.Definitions.{Defines, definitions_in};
 ghost use Rattle.ei_program.specs.Outcomes.{CanBeTold};
-ghost use Rattle.ei_program.specs.Loading.{IsFileTaken, IsAdmitted, IsLoaded, IsReadOutcome};
+ghost use Rattle.ei_program.specs.Loading.{AreUsable, IsReady, IsFileTaken, IsAdmitted, IsLoaded, IsReadOutcome};
 ghost use Rattle.ei_program.specs.Taking.{IsTaken, IsReadCount};
 
 use crate::definitions::{Equations, read_equations};
@@ -65,10 +65,12 @@ fn take_file<F: Files>(alloc: Global, files: &mut F, name: &str) -> Result<Vec<u
 
 /// The equations, where they break no restriction.
 fn admit(alloc: Global, equations: Equations) -> Result<Loaded, Outcome>
-    requires { (file : List ℕ) × Defines file (definitions_in equations) }
+    requires defined { (file : List ℕ) × Defines file (definitions_in equations) }
+    requires usable { AreUsable equations }
     ensures admitted { IsAdmitted equations result }
     ensures told { IfErr result CanBeTold }
 {
+    equations.symbols.has_one_number_each();
     match Regular::admit(alloc, equations.rules) {
         Ok(regular) => Ok(Loaded {
             symbols: equations.symbols,
@@ -83,7 +85,7 @@ fn admit(alloc: Global, equations: Equations) -> Result<Loaded, Outcome>
 /// What the named file defines, or the outcome of a run that does not accept it.
 pub fn load<F: Files>(alloc: Global, files: &mut F, name: &str) -> Result<Loaded, Outcome>
     ensures loaded { (named : List ℕ → Option (List ℕ)) → F.named files.old ≡ Some named → IsLoaded (named name.now) result }
-    ensures accepted { IfOk result (λ loaded. IsAccepted (definitions_of loaded)) }
+    ensures ready { IfOk result IsReady }
     ensures told { IfErr result CanBeTold }
     ensures count { IsReadOutcome (F.faults files.old) (F.faults files.new) result }
 {

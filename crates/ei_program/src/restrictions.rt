@@ -1,9 +1,10 @@
 // How breaks of restrictions are told.
 ghost use Rattle.std.specs.Prelude.{◌≡◌, ◌<◌, IfOk, OnOk, ◌++◌, string_bytes, slice_get, Some};
 ghost use Rattle.eq_base.specs.Tree.{size, nth_position};
+ghost use Rattle.eq_base.specs.Rules.{rule_of};
 ghost use Rattle.regularity.specs.Listing.{Lists};
 ghost use Rattle.sequentiality.specs.Violations.{IsViolation};
-ghost use Rattle.ei_program.specs.Restrictions.{origin_name, position_name, broken_side, broken_at, broken_with, joined_line, line_of, break_line, broken_text, IsInList};
+ghost use Rattle.ei_program.specs.Restrictions.{origin_name, position_name, origin_of, broken_side, broken_at, broken_with, joined_line, line_of, break_line, broken_text, IsInList};
 
 use crate::positions::argument_numbers;
 use eq_base::{Equation, NoMemory, Origin, Pattern, Right, Rules};
@@ -46,7 +47,7 @@ fn place_name(alloc: Global, pattern: &Pattern, place: usize) -> Result<String, 
 
 /// The side of an equation at which a break of the restriction stands.
 fn broken_side(restriction: u8, equation: &Equation) -> &Pattern
-    ensures { result.now ≡ broken_side restriction equation.now }
+    ensures { result.now ≡ broken_side restriction (rule_of equation.now) }
 {
     match &equation.right {
         Right::Tree(right) if restriction == 2 => right,
@@ -97,8 +98,8 @@ fn line_by(
     one: &Equation,
     other: &Equation,
 ) -> Result<String, NoMemory>
-    requires { found.place < size (broken_side found.restriction one.now) }
-    ensures { IfOk result (λ line. string_bytes line ≡ line_of found one.now other.now) }
+    requires { found.place < size (broken_side found.restriction (rule_of one.now)) }
+    ensures { IfOk result (λ line. string_bytes line ≡ line_of rule_of origin_of found one.now other.now) }
 {
     let restriction = found.restriction;
     let name = equation_name(alloc, one.origin)?;
@@ -112,7 +113,7 @@ fn line_by(
 /// The line of a break.
 fn break_line(alloc: Global, rules: &Rules, found: Break) -> Result<String, NoMemory>
     requires { IsInList rules.now found }
-    ensures { IfOk result (λ line. string_bytes line ≡ break_line rules.now found) }
+    ensures { IfOk result (λ line. string_bytes line ≡ break_line rule_of origin_of rules.now found) }
 {
     let one = rules.equation(found.first as usize);
     let other = rules.equation(found.second as usize);
@@ -122,7 +123,7 @@ fn break_line(alloc: Global, rules: &Rules, found: Break) -> Result<String, NoMe
 /// What is told of breaks: how many they are, the first 50 of them, and how many more there are.
 pub fn broken_text(alloc: Global, rules: &Rules, breaks: &Breaks) -> Result<String, NoMemory>
     requires { Lists (IsViolation rules.now) breaks.now }
-    ensures { IfOk result (λ text. string_bytes text ≡ broken_text rules.now breaks.now) }
+    ensures { IfOk result (λ text. string_bytes text ≡ broken_text rule_of origin_of rules.now breaks.now) }
 {
     let count = breaks.len();
     let told = count.min(MOST_TOLD);

@@ -2,7 +2,8 @@
 ghost use Rattle.std.specs.Prelude.{◌≡◌, ◌≢◌, ◌⊎◌, ◌≤◌, ◌↔◌, ℕ, List, Option, Some, map, string_bytes};
 ghost use Rattle.eq_ports.specs.Causes.{Rose};
 ghost use Rattle.ei_program.specs.Words.{IsCommandLine};
-ghost use Rattle.ei_program.specs.Definitions.{definitions_of, IsAccepted, Grows};
+ghost use Rattle.ei_program.specs.Definitions.{definitions_of};
+ghost use Rattle.ei_program.specs.Loading.{IsReady};
 ghost use Rattle.ei_program.specs.Outcomes.{CanBeTold};
 ghost use Rattle.ei_program.specs.Answering.{IsWriteOutcome};
 ghost use Rattle.ei_program.specs.Run.{InputLeft, IsChecked, Leaves, LeavesOn};
@@ -36,10 +37,9 @@ fn answer_input<I: Source, O: Sink>(
     input: &mut I,
     output: &mut O,
 ) -> Outcome
-    requires { IsAccepted (definitions_of loaded.old) }
+    requires { IsReady loaded.old }
     ensures left { (bytes : List ℕ) → I.left input.old ≡ Some bytes
-        → LeavesOn (InputLeft budget (definitions_of loaded.new) bytes (I.left input.new) result) (O.taken output.old) (O.taken output.new) }
-    ensures grows { Grows (definitions_of loaded.old) (definitions_of loaded.new) }
+        → LeavesOn (InputLeft budget (definitions_of loaded.old) bytes (I.left input.new) result) (O.taken output.old) (O.taken output.new) }
     ensures input_later { I.faults input.old ≤ I.faults input.new }
     ensures output_later { O.faults output.old ≤ O.faults output.new }
     ensures read { result ≡ Outcome.Stopped Stop.ReadFailed → Rose (I.faults input.old) (I.faults input.new) }

@@ -3,7 +3,7 @@ use Rattle.std.proofs.Common.{◌≡◌, ℕ, zero, suc, [], ◌∷◌, Some, su
 use Rattle.std.proofs.lemmas.Option.{none-some}
 use Rattle.std.specs.Prelude.{Contains}
 use Rattle.std.specs.List.{AllByRecursion}
-use Rattle.eq_base.specs.Tree.{Tree, Forest, node, empty, grow, AllHeads, AllHeadsIn, Position, subtree_at, subtree_in, replace_at, replace_in}
+use Rattle.eq_base.specs.Tree.{Tree, Forest, node, empty, grow, AllHeads, AllHeadsIn, cells, all_cells, Position, subtree_at, subtree_in, replace_at, replace_in}
 use Rattle.eq_base.specs.Pattern.{PatternCell, fixed, variable, restricted, variables, all_variables, Substitution, apply, apply_all}
 use Rattle.eq_base.proofs.Lists.{all_front, all_back, all_both, all_map, all_contained}
 use Rattle.eq_base.specs.Rewriting.{System, RootStep, StepAt, Derivation, start, then}
@@ -86,3 +86,15 @@ module _ {H : Type 0} (P : H → Type 0) where
     pub derived-heads : (t : Tree H) (n : ℕ) (u : Tree H) → Derivation system t n u → AllHeads P t → AllHeads P u
     derived-heads t zero u start a = a
     derived-heads t (suc n) v (then {u = u} d s) a = step-heads u s.0 v s.1 (derived-heads t n u d a)
+
+-- where the head of each cell has the property, each head of the tree has it
+mutual
+  pub heads_in_cells : {A : Type 0} (P : A → Type 0) (t : Tree A) → AllByRecursion (λ c. P c.0) (cells t) → AllHeads P t
+  heads_in_cells P (node a args) all = (all.0, heads_in_all_cells P args all.1)
+
+  heads_in_all_cells : {A : Type 0} (P : A → Type 0) (ts : Forest A) → AllByRecursion (λ c. P c.0) (all_cells ts) → AllHeadsIn P ts
+  heads_in_all_cells P empty all = tt
+  heads_in_all_cells P (grow t ts) all = (
+    heads_in_cells P t (all_front (λ c. P c.0) (cells t) (all_cells ts) all),
+    heads_in_all_cells P ts (all_back (λ c. P c.0) (cells t) (all_cells ts) all),
+  )

@@ -6,6 +6,7 @@ pub mod Scans
 pub mod Instances
 pub mod Heads
 pub mod Decimals
+pub mod Mapped
 mod Ends
 mod Reading
 mod Built

@@ -12,3 +12,6 @@ pub mod Preorder
 pub mod Kinds
 pub mod Vectors
 pub mod Decimal
+pub mod ReadHead
+pub mod Mapping
+pub mod Operations

@@ -5,13 +5,13 @@ use Rattle.eq_base.specs.Tree.{Tree, node, args_of, size, total_size, nth_subtre
 use Rattle.eq_base.specs.Storing.{first_trees}
 use Rattle.eq_base.specs.Rewriting.{Rule, IsRedex}
 use Rattle.eq_base.specs.Meeting.{in_symbol_class}
-use Rattle.eq_base.specs.Rules.{rule_of}
+use Rattle.eq_base.specs.Rules.{rule_of, system_of}
 use Rattle.eq_base.specs.declared.head.Head.{Head}
 use Rattle.eq_base.specs.declared.rules.Equation.{Equation}
 use Rattle.eq_base.proofs.Instances.{fits_from_instance}
 use Rattle.orthogonal_laws.specs.Matching.{IsLastFailure}
 use Rattle.orthogonal_laws.specs.Next.{IsArgumentToward}
-use Rattle.orthogonal_laws.specs.Plain.{plain_system}
+use Rattle.orthogonal_laws.specs.Operations.{Values}
 use Rattle.orthogonal_laws.specs.Orthogonal.{IsWellFormed, IsOrthogonal}
 use Rattle.orthogonal_laws.specs.Strategy.{HasNoDemandedRedex}
 use Rattle.orthogonal_laws.proofs.Members.{get-in, map-in, in-get}
@@ -22,10 +22,10 @@ use Rattle.orthogonal_laws.proofs.Followed.{IsFollowed, followed_step, followed_
 use Rattle.orthogonal_laws.proofs.Arguments.{place_of}
 
 -- where all left sides fail, there is no redex
-pub failed_no_redex : (es : List Equation) (t : Tree Head) (n : ℕ) → IsLastFailure es t n → IsRedex (plain_system es) t → ⊥
-failed_no_redex es t n failed r =
+pub failed_no_redex : (values : Values) (es : List Equation) (t : Tree Head) (n : ℕ) → IsLastFailure es t n → IsRedex (system_of values es) t → ⊥
+failed_no_redex values es t n failed r =
     let by = r.1.1 in
-    let x = map-in rule_of es by.rule (get-in (plain_system es).rules r.1.0 by.rule by.listed) in
+    let x = map-in rule_of es by.rule (get-in (system_of values es).rules r.1.0 by.rule by.listed) in
     let y = in-get x.1 in
     let fails = failed.each y.0 x.0 y.1 in
     let i = fits_from_instance in_symbol_class by.rule.left t by.is_instance.left in
@@ -41,27 +41,27 @@ argument_in (node a args) i s e = e
 pub later_of : (m n k : ℕ) → k ≡ max m n → ((k ≡ m) × (n ≤ m)) ⊎ ((k ≡ n) × (m ≤ n))
 later_of m n k e = ⊎_elim (λ below. inr (omega (arith, e), omega arith)) (λ past. inl (omega (arith, e), past)) (cases_lt m n)
 
-module _ (es : List Equation) (w : IsWellFormed (plain_system es)) (o : IsOrthogonal (plain_system es)) (whole t : Tree Head) (place at last failing later : ℕ) (f : IsFollowed (plain_system es) w o whole (nth_subtree t at) (last - at) place) (failed : IsLastFailure es (nth_subtree t at) (failing - at)) (low : at ≤ last) (low' : at ≤ failing) (is : later ≡ max last failing) where
+module _ (values : Values) (es : List Equation) (w : IsWellFormed (system_of values es)) (o : IsOrthogonal (system_of values es)) (whole t : Tree Head) (place at last failing later : ℕ) (f : IsFollowed (system_of values es) w o whole (nth_subtree t at) (last - at) place) (failed : IsLastFailure es (nth_subtree t at) (failing - at)) (low : at ≤ last) (low' : at ≤ failing) (is : later ≡ max last failing) where
   -- the last left side fails within the subterm
   pub fails_within : later < at + size (nth_subtree t at)
   fails_within =
       let a = reaches-bound f.reaches in
-      let b = reaches-bound (last_reaches es w o (nth_subtree t at) (failing - at) failed) in
+      let b = reaches-bound (last_reaches values es w o (nth_subtree t at) (failing - at) failed) in
       omega (arith, a, b, is, size_args (nth_subtree t at))
 
-  pub follow_end : later ≡ at → HasNoDemandedRedex (plain_system es) whole
+  pub follow_end : later ≡ at → HasNoDemandedRedex (system_of values es) whole
   follow_end e =
-      followed_end (plain_system es) w o whole (nth_subtree t at) (last - at) place (failing - at) f (failed_no_redex es _ _ failed) (last_reaches es w o (nth_subtree t at) (failing - at) failed)
+      followed_end (system_of values es) w o whole (nth_subtree t at) (last - at) place (failing - at) f (failed_no_redex values es _ _ failed) (last_reaches values es w o (nth_subtree t at) (failing - at) failed)
       (later_of (last - at) (failing - at) 0 (omega (arith, e, is)))
 
-  pub follow_on : (argument : ℕ) → at < later → IsArgumentToward t at later argument → IsFollowed (plain_system es) w o whole (nth_subtree t argument) (later - argument) (place + (argument - at))
+  pub follow_on : (argument : ℕ) → at < later → IsArgumentToward t at later argument → IsFollowed (system_of values es) w o whole (nth_subtree t argument) (later - argument) (place + (argument - at))
   follow_on argument lt a =
       let s = nth_subtree t at in
       let n = place_of s a.i (nth_subtree t argument) a.stands in
       let off = total_size (first_trees a.i (args_of s)) in
       let x =
-      followed_step (plain_system es) w o whole s (nth_subtree t argument) (last - at) place (failing - at) (later - at - 1) a.i f (failed_no_redex es _ _ failed) (last_reaches es w o s (failing - at) failed)
+      followed_step (system_of values es) w o whole s (nth_subtree t argument) (last - at) place (failing - at) (later - at - 1) a.i f (failed_no_redex values es _ _ failed) (last_reaches values es w o s (failing - at) failed)
       (later_of (last - at) (failing - at) (suc (later - at - 1)) (omega (arith, is))) (argument_in s a.i (nth_subtree t argument) a.stands) (omega (arith, n, a.place, a.before)) (omega (arith, n, a.place, a.within)) in
       let e : later - at - 1 - off ≡ later - argument = omega (arith, n, a.place) in
       let e' : place + suc off ≡ place + (argument - at) = omega (arith, n, a.place) in
-      subst (λ z. IsFollowed (plain_system es) w o whole (nth_subtree t argument) (later - argument) z) e' (subst (λ z. IsFollowed (plain_system es) w o whole (nth_subtree t argument) z (place + suc off)) e x)
+      subst (λ z. IsFollowed (system_of values es) w o whole (nth_subtree t argument) (later - argument) z) e' (subst (λ z. IsFollowed (system_of values es) w o whole (nth_subtree t argument) z (place + suc off)) e x)

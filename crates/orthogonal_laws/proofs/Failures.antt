@@ -4,14 +4,15 @@ use Rattle.std.proofs.lemmas.Bool.{cases_lt}
 use Rattle.std.proofs.lemmas.Option.{slice_get_within}
 use Rattle.std.specs.Prelude.{slice_get, Contains}
 use Rattle.eq_base.specs.Tree.{Tree, node, head_of, args_of, arity_of}
-use Rattle.eq_base.specs.Rewriting.{System, IsRedexBy}
+use Rattle.eq_base.specs.Pattern.{PatternCell, IsInstanceOf}
+use Rattle.eq_base.specs.Rewriting.{System}
 use Rattle.eq_base.specs.Meeting.{in_symbol_class}
-use Rattle.eq_base.specs.Rules.{rule_of}
+use Rattle.eq_base.specs.Rules.{rule_of, system_of}
 use Rattle.eq_base.specs.declared.head.Head.{Head}
 use Rattle.eq_base.specs.declared.rules.Equation.{Equation}
 use Rattle.eq_base.proofs.Instances.{fits_from_instance}
 use Rattle.orthogonal_laws.specs.Matching.{FailsAt, IsLastFailure}
-use Rattle.orthogonal_laws.specs.Plain.{plain_system}
+use Rattle.orthogonal_laws.specs.Operations.{Values}
 use Rattle.orthogonal_laws.specs.Orthogonal.{IsWellFormed, IsOrthogonal}
 use Rattle.orthogonal_laws.proofs.Members.{In, contains-in, in-contains, in-get, get-in, in-map, map-in}
 use Rattle.orthogonal_laws.proofs.LeftSides.{Compiled}
@@ -19,7 +20,6 @@ use Rattle.orthogonal_laws.proofs.Matchers.{rule_tree}
 use Rattle.orthogonal_laws.proofs.DecisionTrees.{Member, member_of, contains_of, regular-fit}
 use Rattle.orthogonal_laws.proofs.Redexes.{compile, compiled, root_tested}
 use Rattle.orthogonal_laws.proofs.Regularity.{orthogonal-regular}
-use Rattle.orthogonal_laws.proofs.Nexts.{match_from_redex}
 use Rattle.orthogonal_laws.proofs.Failing.{mismatch-fits}
 use Rattle.orthogonal_laws.proofs.Mismatches.{failure-reaches}
 use Rattle.orthogonal_laws.proofs.Reaching.{Reaches, reaches-one, furthest}
@@ -30,9 +30,9 @@ pub record FailsSoFar (es : List Equation) (bound : ℕ) (t : Tree Head) (n : �
   pub each : (number : ℕ) (e : Equation) → number < bound → slice_get es number ≡ Some e → (k : ℕ) × FailsAt e.left t k × (k ≤ n)
   pub some : (n ≡ 0) ⊎ ((number : ℕ) × (e : Equation) × (slice_get es number ≡ Some e) × FailsAt e.left t n)
 
--- where a left side fails, the equation does not fit
-pub failing_no_redex : (es : List Equation) (number : ℕ) (e : Equation) → slice_get es number ≡ Some e → (t : Tree Head) (k : ℕ) → FailsAt e.left t k → IsRedexBy (plain_system es) number t → ⊥
-failing_no_redex es number e there t k fails r = mismatch-fits in_symbol_class fails (fits_from_instance in_symbol_class e.left t (match_from_redex es number e there t r), tt)
+-- where a left side fails, it is not met
+pub failing_not_met : (left : Tree (PatternCell Head)) (t : Tree Head) (k : ℕ) → FailsAt left t k → IsInstanceOf in_symbol_class left t → ⊥
+failing_not_met left t k fails i = mismatch-fits in_symbol_class fails (fits_from_instance in_symbol_class left t i, tt)
 
 pub fails_none : (es : List Equation) (t : Tree Head) → FailsSoFar es 0 t 0
 fails_none es t = record { each = λ number e lt there. absurd (omega arith); some = inl refl }
@@ -60,9 +60,9 @@ fails_more es number e there t n k m so_far fails is =
 pub fails_all : (es : List Equation) (bound : ℕ) (t : Tree Head) (n : ℕ) → FailsSoFar es bound t n → length es ≤ bound → IsLastFailure es t n
 fails_all es bound t n so_far past = record { each = λ number e there. let z = slice_get_within es number e there in so_far.each number e (omega (arith, z)) there; some = so_far.some }
 
-module _ (es : List Equation) (w : IsWellFormed (plain_system es)) (o : IsOrthogonal (plain_system es)) where
+module _ (values : Values) (es : List Equation) (w : IsWellFormed (system_of values es)) (o : IsOrthogonal (system_of values es)) where
   abbrev system : System Head
-  system = plain_system es
+  system = system_of values es
 
   -- a translated rule is that of an equation
   record OfEquation (rule : Compiled Head) : Type 0 where

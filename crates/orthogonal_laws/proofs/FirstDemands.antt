@@ -3,7 +3,6 @@ use Rattle.std.proofs.Common.{◌≡◌, ℕ, zero, suc, ◌<◌, List, [], ◌�
 use Rattle.std.proofs.lemmas.Bool.{cases_lt}
 use Rattle.eq_base.specs.Tree.{Tree, Forest, node, empty, grow, size, nth_subtree, Position, nth_position, subtree_at, number, number_in}
 use Rattle.eq_base.specs.Rewriting.{System, IsRedex, IsNormal}
-use Rattle.eq_base.specs.declared.head.Head.{Head}
 use Rattle.eq_base.proofs.Positions.{subtree_at-nth_position}
 use Rattle.eq_base.proofs.Replacing.{number-nth_position}
 use Rattle.orthogonal_laws.specs.declared.demand.Fit.{Fit}
@@ -40,7 +39,7 @@ module _ {H : Type 0} (rules : List (Compiled H)) where
       (none_in ks (λ j r g us a. each 0 (j ∷ r) g us (at_below a) (let z = number_within_in ks j r (node g us) (at-stands k a) in omega (arith, z))))
       (first_demand rest i q p h args a (λ j r g us a lt. each (suc j) r g us (at_after a) (omega arith)) d)
 
-no_redex_there : {H : Type 0} {system : System H} (t : Tree H) → HasNoDemandedRedex system t → IsRedex system t → ⊥
+pub no_redex_there : {H : Type 0} {system : System H} (t : Tree H) → HasNoDemandedRedex system t → IsRedex system t → ⊥
 no_redex_there t (none_demanded none each) r = none r
 
 module _ {H : Type 0} (system : System H) (w : IsWellFormed system) (o : IsOrthogonal system) where
@@ -61,7 +60,7 @@ module _ {H : Type 0} (system : System H) (w : IsWellFormed system) (o : IsOrtho
   pub normal_node : (t : Tree H) (k : ℕ) → HasNoDemandedRedex system (nth_subtree t k) → IsRedex system (nth_subtree t k) → ⊥
   normal_node t k none r = no_redex_there (nth_subtree t k) none r
 
-module _ (system : System Head) (w : IsWellFormed system) (o : IsOrthogonal system) (t : Tree Head) where
+module _ {H : Type 0} (system : System H) (w : IsWellFormed system) (o : IsOrthogonal system) (t : Tree H) where
   -- the demanded redex of the first node that has one is the next redex
   pub next_of_fit : (at : ℕ) (fit : Fit) → at < size t → ((k : ℕ) → k < at → HasNoDemandedRedex system (nth_subtree t k)) → IsDemandedFit system t at fit → IsNextRedex system t fit.at fit.equation
   next_of_fit at fit lt each d =
@@ -72,7 +71,7 @@ module _ (system : System Head) (w : IsWellFormed system) (o : IsOrthogonal syst
       let same : q ≡ nth_position t fit.at = sym (position-number t q (nth_subtree t fit.at) there) ∙ ap (nth_position t) n in
       record { there = d.there; next = subst (λ z. IsNext system t z) same (first_node system w o t at d.position lt each d.demanded); first = d.first }
 
-  first_one : (s : Tree Head) (a b : ℕ) → IsFirstFit system a s → IsFirstFit system b s → a ≡ b
+  first_one : (s : Tree H) (a b : ℕ) → IsFirstFit system a s → IsFirstFit system b s → a ≡ b
   first_one s a b f g =
       ⊎_elim (λ below. absurd (g.first a below f.redex)) (λ past. ⊎_elim (λ below. absurd (f.first b below g.redex)) (λ past'. omega arith) (cases_lt b a)) (cases_lt a b)
 

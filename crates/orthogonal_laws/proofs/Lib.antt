@@ -1,11 +1,15 @@
-pub mod Heads
+pub mod Images
+pub mod Applications
+pub mod OperandsRead
+pub mod ReadSystems
+pub mod ReadRestrictions
+pub mod Retracts
 mod Scan
 mod Nexts
 mod Copying
 mod Binding
 mod Pushing
 mod Replaced
-mod Variables
 pub mod Members
 pub mod LeftSides
 pub mod Readings
@@ -59,12 +63,16 @@ mod Failures
 mod Descending
 mod Resting
 mod FirstDemands
-mod SampleArities
+mod Stuck
+mod Pasts
+mod KindsOfValues
+mod Steps
+mod ValueHeads
+mod Lives
 pub mod SameTerms
 pub mod Outcomes
 pub mod Compared
 pub mod Singles
 pub mod MergedRights
 pub mod RegularLists
-pub mod PlainRegular
 mod Addition

@@ -1,12 +1,14 @@
 -- Plain runs: their steps, and that a budget leads to one term.
 use Rattle.std.proofs.Common.{◌≡◌, ℕ, ◌+◌, ◌≤◌, refl, sym, ◌∙◌, ap, subst, arith, add-one}
 use Rattle.eq_base.specs.Tree.{Tree, Position, nth_subtree, nth_position, replace_at}
-use Rattle.eq_base.specs.Rewriting.{System, RootStep, StepAt, Derivation, IsNormal}
+use Rattle.eq_base.specs.Rewriting.{System, RootStep, RootStepBy, StepAt, Derivation, IsNormal}
+use Rattle.eq_base.specs.ReadHead.{ReadHead}
+use Rattle.symbol_table.specs.Table.{Table}
+use Rattle.symbol_table.specs.Reading.{read}
 use Rattle.eq_base.specs.declared.head.Head.{Head}
 use Rattle.eq_base.proofs.Positions.{subtree_at-nth_position}
 use Rattle.orthogonal_laws.specs.Next.{IsNextRedex}
 use Rattle.orthogonal_laws.specs.Orthogonal.{IsWellFormed, IsOrthogonal}
-use Rattle.orthogonal_laws.specs.Replacing.{IsStepBy}
 use Rattle.orthogonal_laws.specs.Run.{IsEnd}
 use Rattle.orthogonal_laws.specs.Strategy.{IsNext, PlainRun, start, then, HasLength}
 use Rattle.orthogonal_laws.specs.declared.run.PlainEnd.TheVariants.{Normal, Spent}
@@ -36,40 +38,31 @@ module _ {H : Type 0} (system : System H) (w : IsWellFormed system) (o : IsOrtho
       let e : q' ≡ q = next_one system w o u q' q next'' next in
       step_one u x v q step (subst (λ z. StepAt system u z v) e step'')
 
-module _ (system : System Head) (w : IsWellFormed system) (o : IsOrthogonal system) (t : Tree Head) where
   -- one more step
-  pub run_more : (n at equation : ℕ) (u v : Tree Head) → PlainRun system t n u → IsNextRedex system u at equation → IsStepBy system u at equation v → PlainRun system t (n + 1) v
-  run_more n at equation u v run next s =
+  pub run_more : (t : Tree H) (n at equation : ℕ) (u v contractum : Tree H) → PlainRun system t n u → IsNextRedex system u at equation → RootStepBy system equation (nth_subtree u at) contractum → v ≡ replace_at u (nth_position u at) contractum → PlainRun system t (n + 1) v
+  run_more t n at equation u v contractum run next s result =
       rw (add-one n)
       (then (nth_position u at) run next.next
-      (record { redex = nth_subtree u at; contractum = s.contractum; stands = subtree_at-nth_position u at next.there; root_step = (equation, s.root_step); result = sym s.result }))
+      (record { redex = nth_subtree u at; contractum = contractum; stands = subtree_at-nth_position u at next.there; root_step = (equation, s); result = sym result }))
 
-  pub normal_end : (budget n : ℕ) (u : Tree Head) → PlainRun system t n u → IsNormal system u → n ≤ budget → IsEnd system t budget (Normal u n)
-  normal_end budget n u run norm within =
-      let has : HasLength system t n u = record { run = run; normal = norm } in
+module _ (system : System ReadHead) (w : IsWellFormed system) (o : IsOrthogonal system) (t : Tree ReadHead) (budget : ℕ) (table : Table) where
+  pub normal_end : (n : ℕ) (u : Tree Head) → PlainRun system t n (read table u) → IsNormal system (read table u) → n ≤ budget → IsEnd system t budget table (Normal u n)
+  normal_end n u run norm within =
+      let has : HasLength system t n (read table u) = record { run = run; normal = norm } in
       record {
         normal = λ v m. (
-          λ e.
-              let same : u ≡ v = cc in
-              let same' : n ≡ m = cc in
-              (subst (λ z. HasLength system t z v) same' (subst (λ z. HasLength system t n z) same has), omega arith),
-          λ h.
-              let one = one_run system w o t u v n m has h.0 in
-              let same = one.0 in
-              let same' = one.1 in
-              cc,
+          λ e. (subst (λ z. HasLength system t z v) e.1 (subst (λ z. HasLength system t n z) e.0 has), omega (arith, e.1, within)),
+          λ h. let one = one_run system w o t (read table u) v n m has h.0 in (one.1, one.0),
         );
-        spent = λ v. (λ e. absurd (cc), λ h. absurd (let z = spent_right system w o t v u budget n h.0 h.1 has in omega (arith, z)));
+        spent = λ v. (λ e. absurd e, λ h. absurd (let z = spent_right system w o t v (read table u) budget n h.0 h.1 has in omega (arith, z, within)));
       }
 
-  pub spent_end : (budget : ℕ) (u : Tree Head) → PlainRun system t budget u → (IsNormal system u → ⊥) → IsEnd system t budget (Spent u)
-  spent_end budget u run unfinished =
+  pub spent_end : (u : Tree Head) → PlainRun system t budget (read table u) → (IsNormal system (read table u) → ⊥) → IsEnd system t budget table (Spent u)
+  spent_end u run unfinished =
       record {
-        normal = λ v n. (λ e. absurd (cc), λ h. absurd (let z = spent_right system w o t u v budget n run unfinished h.0 in omega (arith, z, h.1)));
+        normal = λ v n. (λ e. absurd e, λ h. absurd (let z = spent_right system w o t (read table u) v budget n run unfinished h.0 in omega (arith, z, h.1)));
         spent = λ v. (
-          λ e.
-              let same : u ≡ v = cc in
-              (subst (λ z. PlainRun system t budget z) same run, subst (λ z. IsNormal system z → ⊥) same unfinished),
-          λ h. let same = run_one system w o run h.0 in cc,
+          λ e. (subst (λ z. PlainRun system t budget z) e run, subst (λ z. IsNormal system z → ⊥) e unfinished),
+          λ h. run_one system w o run h.0,
         );
       }

@@ -1,7 +1,7 @@
 -- The system of regular equations is well formed and orthogonal.
-use Rattle.std.proofs.Common.{◌≡◌, ℕ, ◌<◌, List, [], ◌∷◌, get_or, Option, Some, None, ◌⊎◌, inl, inr, refl, sym, ◌∙◌, ap, subst, arith}
+use Rattle.std.proofs.Common.{◌≡◌, ℕ, ◌<◌, List, [], ◌∷◌, Option, Some, None, ◌⊎◌, inl, inr, refl, sym, ◌∙◌, ap, subst, arith}
 use Rattle.std.specs.Prelude.{◌↔◌, ◌≢◌, Contains, slice_get, option_map}
-use Rattle.std.proofs.lemmas.Option.{slice_get_within, slice_get-map, get_or_from_slice_get, slice_get-get_or}
+use Rattle.std.proofs.lemmas.Option.{slice_get_within, slice_get-map, get_or_from_slice_get}
 use Rattle.eq_base.specs.Tree.{Tree, node, empty, head_of, size, nth_subtree, number, Position, subtree_at}
 use Rattle.eq_base.specs.Pattern.{PatternCell, fixed, variable, restricted, IsTested, variables, IsLinear, Substitution, apply, Respects, IsInstanceOf}
 use Rattle.eq_base.specs.Testing.{IsTestedAt, IsPattern}
@@ -15,24 +15,28 @@ use Rattle.eq_base.specs.declared.rules.Right.TheVariants as rights
 use Rattle.eq_base.specs.declared.rules.Equation.{Equation}
 use Rattle.regularity.specs.Arities.{HasArities}
 use Rattle.regularity.specs.Common.{HaveCommon}
-use Rattle.regularity.specs.Merge.{IsSameRight}
-use Rattle.regularity.specs.Single.{HasUnbound, IsSingle}
-use Rattle.regularity.specs.Violations.{IsTestedPlace}
-use Rattle.regularity.specs.WellFormed.{IsWellFormed}
+use Rattle.regularity.specs.Occurrences.{IsTestedPlace}
+use Rattle.regularity.specs.Restrictions.{HasUnbound, IsSameRight}
+use Rattle.regularity.specs.Single.{IsSingle}
+use Rattle.regularity.specs.WellFormed.{IsWellFormed, IsApplicationOf}
 use Rattle.regularity.specs.Listing.{break_at}
 use Rattle.regularity.proofs.Listed.{nth_subtree-zero}
 use Rattle.sequentiality.specs.Comparing.{HasFirstMismatch}
 use Rattle.sequentiality.specs.Regular.{AreRegular}
 use Rattle.orthogonal_laws.specs.Orthogonal as orthogonal
 use Rattle.orthogonal_laws.specs.Orthogonal.{IsHead, TestSame, ClashFirst, SameRight, IsBound, AgreeOnRestricted, IsOrthogonal}
-use Rattle.orthogonal_laws.proofs.Members.{contains-in, in-contains, map-in, in-get, get-in}
-use Rattle.orthogonal_laws.specs.Operations.{ReadConstants, HaveNoOperations}
-use Rattle.orthogonal_laws.specs.Plain.{ArePlain, IsPatternOver}
+use Rattle.orthogonal_laws.proofs.Members.{contains-in, in-contains, map-in, in-get}
+use Rattle.orthogonal_laws.specs.Operations.{ReadConstants}
+use Rattle.orthogonal_laws.proofs.Applications.{same_value}
 use Rattle.orthogonal_laws.proofs.SameTerms.{same_head, same_head_decides, not_different}
 use Rattle.orthogonal_laws.proofs.PositionNumbers.{number_below, number_above, nth_subtree-number}
 use Rattle.orthogonal_laws.proofs.Compared.{clash_first, same_tests, mismatch_first, compared, part_is, pattern_of_arities}
 use Rattle.orthogonal_laws.proofs.Singles.{linear_of, bound_of}
 use Rattle.orthogonal_laws.proofs.MergedRights.{same_values}
+
+-- the left side of an operation's equation is its application
+pub applied_of : (es : List Equation) → AreRegular es → (k : ℕ) (e : Equation) → slice_get es k ≡ Some e → IsApplicationOf e
+applied_of es r k e listed = subst IsApplicationOf (get_or_from_slice_get es k e e listed) (r.well_formed.each k e (slice_get_within es k e listed)).applied
 
 module _ (value_of : Op → Tree Head → Option (Tree Head)) (es : List Equation) (r : AreRegular es) where
   abbrev system : System Head
@@ -82,13 +86,13 @@ module _ (value_of : Op → Tree Head → Option (Tree Head)) (es : List Equatio
     bound = λ at unbound. r.no_violation (break_at 2 k at k) (inl (inl (inr (record { restriction = refl; equation = e; listed = listed; unbound = unbound; second = refl }))));
   }
 
-  left_linear : (k : ℕ) (e : Equation) → slice_get es k ≡ Some e → IsLinear e.left
+  pub left_linear : (k : ℕ) (e : Equation) → slice_get es k ≡ Some e → IsLinear e.left
   left_linear k e listed = linear_of e.left (single k e listed).linear
 
-  right_bound : (k : ℕ) (e : Equation) → slice_get es k ≡ Some e → IsBound (variables e.left) (right_side e.right)
+  pub right_bound : (k : ℕ) (e : Equation) → slice_get es k ≡ Some e → IsBound (variables e.left) (right_side e.right)
   right_bound k e listed = go e.right (single k e listed).bound
     where
-      go : (right : Right) → ((at : ℕ) → HasUnbound e.left right at → ⊥) → IsBound (variables e.left) (right_side right)
+      go : (right : Right) → ((at : ℕ) → HasUnbound e.left (right_side right) at → ⊥) → IsBound (variables e.left) (right_side right)
       go (rights.Tree p) none = bound_of e.left p (left_pattern k e listed) none
       go (rights.Schema op) none = tt
 
@@ -110,11 +114,11 @@ module _ (value_of : Op → Tree Head → Option (Tree Head)) (es : List Equatio
       }))
 
   -- right sides that are not different under the merge give the same
-  same_results : (i : ℕ) (e : Equation) (j : ℕ) (d : Equation) → slice_get es i ≡ Some e → slice_get es j ≡ Some d → ((IsSameRight e.left d.left e.right d.right → ⊥) → ⊥) →
+  same_results : (i : ℕ) (e : Equation) (j : ℕ) (d : Equation) → slice_get es i ≡ Some e → slice_get es j ≡ Some d → ((IsSameRight e.left d.left (right_side e.right) (right_side d.right) → ⊥) → ⊥) →
       (t : Tree Head) (one : IsInstanceOf in_symbol_class e.left t) (other : IsInstanceOf in_symbol_class d.left t) (u : Tree Head) → Gives system one.substitution (right_side e.right) t u ↔ Gives system other.substitution (right_side d.right) t u
   same_results i e j d listed listed' n t one other u = go e.right d.right (right_bound i e listed) (right_bound j d listed') n
     where
-      go : (s s' : Right) → IsBound (variables e.left) (right_side s) → IsBound (variables d.left) (right_side s') → ((IsSameRight e.left d.left s s' → ⊥) → ⊥) → Gives system one.substitution (right_side s) t u ↔ Gives system other.substitution (right_side s') t u
+      go : (s s' : Right) → IsBound (variables e.left) (right_side s) → IsBound (variables d.left) (right_side s') → ((IsSameRight e.left d.left (right_side s) (right_side s') → ⊥) → ⊥) → Gives system one.substitution (right_side s) t u ↔ Gives system other.substitution (right_side s') t u
       go (rights.Schema op) s' b b' n = absurd (n (λ x. x))
       go (rights.Tree p) (rights.Schema op) b b' n = absurd (n (λ x. x))
       go (rights.Tree p) (rights.Tree p') b b' n =
@@ -122,7 +126,7 @@ module _ (value_of : Op → Tree Head → Option (Tree Head)) (es : List Equatio
           not_different (apply one.substitution p) (apply other.substitution p') (λ differ. n (λ x. differ (same_values in_symbol_class e.left d.left p p' (left_pattern i e listed) (left_pattern j d listed') b b' x t one other))) in
           (λ x. sym same ∙ x, λ x. same ∙ x)
 
-  same_right : (i : ℕ) (e : Equation) (j : ℕ) (d : Equation) → slice_get es i ≡ Some e → slice_get es j ≡ Some d → ((IsSameRight e.left d.left e.right d.right → ⊥) → ⊥) → SameRight system (rule_of e) (rule_of d)
+  same_right : (i : ℕ) (e : Equation) (j : ℕ) (d : Equation) → slice_get es i ≡ Some e → slice_get es j ≡ Some d → ((IsSameRight e.left d.left (right_side e.right) (right_side d.right) → ⊥) → ⊥) → SameRight system (rule_of e) (rule_of d)
   same_right i e j d listed listed' n t one other u = (
     λ x. record { left = other; right = (same_results i e j d listed listed' n t x.left other u).0 x.right },
     λ x. record { left = one; right = (same_results i e j d listed listed' n t one x.left u).1 x.right },
@@ -201,8 +205,14 @@ module _ (value_of : Op → Tree Head → Option (Tree Head)) (es : List Equatio
         (λ tested. parts x.0 x.1.equation y.0 y.1.equation x.1.listed y.1.listed q below tested));
   }
 
-  pub regular_well_formed : ReadConstants value_of es → orthogonal.IsWellFormed system
-  regular_well_formed reads = record {
+  -- whatever values operations have, they read constants alone
+  pub reads_constants : ReadConstants value_of es
+  reads_constants e c op is σ τ respects agree =
+      let k = in-get (contains-in c) in
+      same_value value_of op e.left (applied_of es r k.0 e k.1 op is) σ τ agree
+
+  pub regular_well_formed : orthogonal.IsWellFormed system
+  regular_well_formed = record {
     same = same_head;
     decides = same_head_decides;
     patterns = λ rule c. let b = behind_some rule c in subst (λ (z : Rule Head). IsPattern z.left) b.1.is (left_pattern b.0 b.1.equation b.1.listed);
@@ -210,27 +220,9 @@ module _ (value_of : Op → Tree Head → Option (Tree Head)) (es : List Equatio
     values = λ rule c.
         let b = map-in rule_of es rule (contains-in c) in
         subst (λ (z : Rule Head). (op : Op) → z.right ≡ operation op → (σ τ : Substitution Head) → Respects in_symbol_class σ z.left → AgreeOnRestricted z.left σ τ → value_of op (apply σ z.left) ≡ value_of op (apply τ z.left)) b.2
-        (λ op e. reads b.0 (in-contains b.1) op (schema_of b.0.right op e));
+        (λ op e. reads_constants b.0 (in-contains b.1) op (schema_of b.0.right op e));
   }
     where
       schema_of : (right : Right) (op : Op) → right_side right ≡ operation op → right ≡ rights.Schema op
       schema_of (rights.Tree p) op e = absurd (cc)
       schema_of (rights.Schema other) op e = let same : other ≡ op = cc in ap (λ z. rights.Schema z) same
-
--- where no right side is an operation
-
-pub plain_reads_constants : (es : List Equation) → ReadConstants (λ op t. None) es
-plain_reads_constants es e c op is σ τ a b = refl
-
-pub regular_plain : (es : List Equation) → AreRegular es → HaveNoOperations es → ArePlain es
-regular_plain es r none k d lt =
-    let e = get_or es k d in
-    let listed : slice_get es k ≡ Some e = slice_get-get_or es k d lt in
-    record {
-      linear = left_linear (λ op t. None) es r k e listed;
-      over = over e.right refl (right_bound (λ op t. None) es r k e listed);
-    }
-  where
-    over : (right : Right) → (get_or es k d).right ≡ right → IsBound (variables (get_or es k d).left) (right_side right) → IsPatternOver (variables (get_or es k d).left) (right_side right)
-    over (rights.Tree p) is b = b
-    over (rights.Schema op) is b = none (get_or es k d) (in-contains (get-in es k (get_or es k d) (slice_get-get_or es k d lt))) op is

@@ -1,20 +1,14 @@
 -- The cells of a term after a root step at a node.
-use Rattle.std.proofs.Common.{◌≡◌, ℕ, ◌+◌, ◌-◌, ◌<◌, ◌≤◌, List, [], ◌++◌, length, take, drop, Some, refl, sym, ◌∙◌, ap, subst, arith, append_assoc}
-use Rattle.std.specs.Prelude.{slice_range, slice_get}
+use Rattle.std.proofs.Common.{◌≡◌, ℕ, ◌+◌, ◌-◌, ◌<◌, ◌≤◌, List, [], ◌++◌, length, take, drop, refl, sym, ◌∙◌, ap, arith, append_assoc}
+use Rattle.std.specs.Prelude.{slice_range}
 use Rattle.std.proofs.lemmas.List.{append-nil, take-append-drop, take_all, length-drop}
 use Rattle.eq_base.specs.Tree.{Tree, size, nth_subtree, nth_position, replace_at, cells}
-use Rattle.eq_base.specs.Pattern.{PatternCell, apply, variables, IsInstanceOf}
-use Rattle.eq_base.specs.Rewriting.{Gives, RootStepBy}
-use Rattle.eq_base.specs.Meeting.{in_symbol_class}
-use Rattle.eq_base.specs.Rules.{right_side, rule_of}
+use Rattle.eq_base.specs.Cells.{TakesArguments}
 use Rattle.eq_base.specs.declared.head.Head.{Head}
-use Rattle.eq_base.specs.declared.rules.Equation.{Equation}
-use Rattle.eq_base.specs.declared.rules.Right.TheVariants as rights
+use Rattle.eq_base.specs.declared.head.Head.TheVariants.{Symbol, Numeral, Atom, Text}
 use Rattle.eq_base.proofs.Trees.{length-cells}
 use Rattle.eq_base.proofs.Replacing.{cells-replace_at}
-use Rattle.orthogonal_laws.specs.Plain.{plain_system, IsOver, IsPatternOver, ArePlain}
 use Rattle.orthogonal_laws.specs.Replacing.{HasRoom}
-use Rattle.orthogonal_laws.proofs.Nexts.{listed, plain_at}
 
 module _ (t : Tree Head) (k : ℕ) (lt : k < size t) where
   abbrev front : List (Head × ℕ)
@@ -60,19 +54,9 @@ module _ (t : Tree Head) (k : ℕ) (lt : k < size t) where
       pub done : (all : List (Head × ℕ)) → all ≡ now ++ slice_range (cells t) from to → all ≡ cells (replace_at t (nth_position t k) v)
       done all e = e ∙ rw (so_far, begins, ends) (append_assoc front (cells v) back) ∙ sym cells-replaced
 
-module _ (es : List Equation) (number : ℕ) (e : Equation) (there : slice_get es number ≡ Some e) where
-  pub root_step_of : (t : Tree Head) (p : Tree (PatternCell Head)) (i : IsInstanceOf in_symbol_class e.left t) → e.right ≡ rights.Tree p → RootStepBy (plain_system es) number t (apply i.substitution p)
-  root_step_of t p i is = record {
-    rule = rule_of e;
-    listed = listed es number e there;
-    is_instance = record {
-      left = i;
-      right = subst (λ r. Gives (plain_system es) i.substitution (right_side r) t (apply i.substitution p)) (sym is) refl;
-    };
-  }
-
-  pub over_of : ArePlain es → (p : Tree (PatternCell Head)) → e.right ≡ rights.Tree p → IsOver (variables e.left) p
-  over_of plain p is = subst (λ r. IsPatternOver (variables e.left) (right_side r)) is (plain_at es number e there plain).over
-
-  pub no_schema : ArePlain es → (op : _) → e.right ≡ rights.Schema op → ⊥
-  no_schema plain op is = subst (λ r. IsPatternOver (variables e.left) (right_side r)) is (plain_at es number e there plain).over
+-- every head takes no arguments
+pub takes_none : (h : Head) → TakesArguments h 0
+takes_none (Symbol s) = tt
+takes_none (Numeral i) = refl
+takes_none (Atom a) = refl
+takes_none (Text t) = refl

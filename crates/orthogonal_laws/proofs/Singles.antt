@@ -9,11 +9,10 @@ use Rattle.eq_base.specs.Pattern.{PatternCell, fixed, variable, restricted, vari
 use Rattle.eq_base.specs.Testing.{IsPattern, ArePatterns}
 use Rattle.eq_base.specs.Rewriting.{pattern}
 use Rattle.orthogonal_laws.specs.Orthogonal.{IsBound}
-use Rattle.eq_base.specs.Cells.{root_cell, variable_in}
 use Rattle.eq_base.specs.declared.head.Head.{Head}
 use Rattle.eq_base.proofs.Positions.{subtree_at-nth_position}
 use Rattle.eq_base.proofs.Lists.{all_both}
-use Rattle.regularity.specs.Single.{OccursAt, Repeats, IsUnbound}
+use Rattle.regularity.specs.Occurrences.{variable_of, OccursAt, Repeats, IsUnbound}
 use Rattle.regularity.proofs.Faces.{number_before}
 use Rattle.orthogonal_laws.proofs.PositionNumbers.{number_below, nth_subtree-number}
 use Rattle.orthogonal_laws.proofs.Members.{In, in_first, in_next, in_left, in_right, in-contains}
@@ -141,12 +140,12 @@ module _ {H : Type 0} where
 abbrev Pattern : Type 0
 Pattern = Tree (PatternCell Head)
 
-variable_here : (p : Pattern) (x : ℕ) → IsVariable x (head_of p) → variable_in (root_cell p) ≡ Some x
+variable_here : (p : Pattern) (x : ℕ) → IsVariable x (head_of p) → variable_of (head_of p) ≡ Some x
 variable_here (node (fixed h) ps) x v = absurd v
 variable_here (node (variable y) ps) x v = ap (λ z. Some z) v
 variable_here (node (restricted y class) ps) x v = ap (λ z. Some z) v
 
-here_variable : (p : Pattern) (x : ℕ) → variable_in (root_cell p) ≡ Some x → IsVariable x (head_of p)
+here_variable : (p : Pattern) (x : ℕ) → variable_of (head_of p) ≡ Some x → IsVariable x (head_of p)
 here_variable (node (fixed h) ps) x e = absurd (cc)
 here_variable (node (variable y) ps) x e = cc
 here_variable (node (restricted y class) ps) x e = cc

@@ -1,14 +1,14 @@
-pub mod Plain
 pub mod Next
 pub mod Run
+pub mod Past
+pub mod Stepping
 pub mod Matching
 pub mod Looking
 pub mod Replacing
-pub mod Scanning
 pub mod Orthogonal
 pub mod Strategy
 pub mod Development
 pub mod Convertible
 pub mod Addition
 pub mod Operations
-pub mod Samples
+pub mod Readings

@@ -1,4 +1,5 @@
--- Systems of rules in which no two rules, and no rule and itself, overlap but trivially, and whose left sides can be tested from left to right.
+-- Systems of rules in which no two rules, and no rule and itself, overlap but trivially, and whose left sides
+-- can be tested from left to right.
 use Rattle.std.specs.Prelude.{◌≡◌, ◌≢◌, ◌⊎◌, ◌↔◌, ◌<◌, ℕ, List, [], Bool, IsTrue, Contains, Some, slice_get}
 use Rattle.std.specs.List.{AllByRecursion}
 use Rattle.eq_base.specs.Tree.{Tree, head_of, Position, IsBefore}
@@ -31,7 +32,8 @@ module _ {H : Type 0} where
   -- wherever both left sides fit, the two rules lead to the same terms
   abbrev pub SameRight : System H → Rule H → Rule H → Type 0
   SameRight system a b =
-      (t : Tree H) → IsInstanceOf system.in_class a.left t → IsInstanceOf system.in_class b.left t → (u : Tree H) → IsInstance system a t u ↔ IsInstance system b t u
+      (t : Tree H) → IsInstanceOf system.in_class a.left t → IsInstanceOf system.in_class b.left t
+      → (u : Tree H) → IsInstance system a t u ↔ IsInstance system b t u
 
   -- ---- what the laws ask of a system
 
@@ -44,17 +46,30 @@ module _ {H : Type 0} where
   abbrev pub AgreeOnRestricted : Tree (PatternCell H) → Substitution H → Substitution H → Type 0
   AgreeOnRestricted p σ τ = AllByRecursion (λ r. σ r.0 ≡ τ r.0) (restrictions p)
 
-  -- what holds of every list of rules that a file gives: equality of heads is decided, left sides are patterns with a head at the root, and the value of an operation depends on restricted variables alone
+  -- what holds of every list of rules that a file gives: equality of heads is decided, left sides are
+  -- patterns with a head at the root, and the value of an operation depends on restricted variables alone
   pub record IsWellFormed (system : System H) : Type 0 where
     pub same : H → H → Bool
     pub decides : (g h : H) → IsTrue (same g h) ↔ (g ≡ h)
     pub patterns : (rule : Rule H) → Contains system.rules rule → IsPattern rule.left
     pub roots : (rule : Rule H) → Contains system.rules rule → IsHead (head_of rule.left)
-    pub values : (rule : Rule H) → Contains system.rules rule → (op : Op) → rule.right ≡ operation op → (σ τ : Substitution H) → Respects system.in_class σ rule.left → AgreeOnRestricted rule.left σ τ → system.value_of op (apply σ rule.left) ≡ system.value_of op (apply τ rule.left)
+    pub values : (rule : Rule H) → Contains system.rules rule → (op : Op) → rule.right ≡ operation op
+        → (σ τ : Substitution H) → Respects system.in_class σ rule.left → AgreeOnRestricted rule.left σ τ
+        → system.value_of op (apply σ rule.left) ≡ system.value_of op (apply τ rule.left)
 
-  -- no variable occurs twice on a left side, or on a right side alone; two left sides clash first, or test the same positions and have the same right side; and each tested part below the root of a left side clashes first with each left side
+  -- no variable occurs twice on a left side, or on a right side alone; two left sides clash first, or test
+  -- the same positions and have the same right side; and each tested part below the root of a left side
+  -- clashes first with each left side
   pub record IsOrthogonal (system : System H) : Type 0 where
     pub linear : (rule : Rule H) → Contains system.rules rule → IsLinear rule.left
     pub bound : (rule : Rule H) → Contains system.rules rule → IsBound (variables rule.left) rule.right
-    pub roots : (i j : ℕ) (a b : Rule H) → i < j → slice_get system.rules i ≡ Some a → slice_get system.rules j ≡ Some b → ClashFirst system.in_class a.left b.left ⊎ (TestSame a.left b.left × SameRight system a b)
-    pub parts : (a b : Rule H) → Contains system.rules a → Contains system.rules b → (q : Position) → q ≢ [] → (tested : IsTestedAt a.left q) → ClashFirst system.in_class tested.part b.left
+    pub roots : (i j : ℕ) (a b : Rule H) → i < j → slice_get system.rules i ≡ Some a
+        → slice_get system.rules j ≡ Some b → ClashFirst system.in_class a.left b.left
+        ⊎ (TestSame a.left b.left × SameRight system a b)
+    pub parts : (a b : Rule H) → Contains system.rules a → Contains system.rules b → (q : Position) → q ≢ []
+        → (tested : IsTestedAt a.left q) → ClashFirst system.in_class tested.part b.left
+
+  -- what the laws ask of a system: it is well formed, and orthogonal
+  pub record IsLawful (system : System H) : Type 0 where
+    pub well_formed : IsWellFormed system
+    pub orthogonal : IsOrthogonal system

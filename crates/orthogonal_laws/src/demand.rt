@@ -7,16 +7,21 @@
 // No left side overlaps with a part of another, and all are told apart in preorder. So of the nodes
 // that are demanded, those before the last one at which a left side fails are met by a part of a
 // left side, and have no demanded redex, unless that last one lies below them.
-ghost use Rattle.std.specs.Prelude.{◌<◌, ◌+◌, MatchOption};
+ghost use Rattle.std.specs.Prelude.{◌<◌, ◌+◌, ℕ, MatchOption};
 ghost use Rattle.eq_base.specs.Tree.{size, nth_subtree};
+ghost use Rattle.eq_base.specs.Rules.{system_of};
+ghost use Rattle.symbol_table.specs.Table.{HasOneNumberEach};
+ghost use Rattle.symbol_table.specs.Reading.{IsLiveTerm};
 ghost use Rattle.sequentiality.specs.Regular.{AreRegular};
-ghost use Rattle.orthogonal_laws.specs.Plain.{plain_system, ArePlain};
+ghost use Rattle.orthogonal_laws.specs.Operations.{Values, AreValuesBy};
 ghost use Rattle.orthogonal_laws.specs.Strategy.{HasNoDemandedRedex};
 ghost use Rattle.orthogonal_laws.specs.Looking.{IsLook};
 ghost use Rattle.orthogonal_laws.specs.Next.{IsDemandedFit, IsArgumentToward};
 
 use crate::matching::{Look, look_at};
+use crate::values::has_result;
 use eq_base::{Flat, Rules};
+use symbol_table::Symbols;
 
 /// A redex: a node, and the first equation that fits there.
 #[derive(Clone, Copy)]
@@ -28,18 +33,30 @@ pub struct Fit {
 }
 
 /// The demanded redex of a node: the first redex on the way from it to the last of the nodes at which
-/// left sides fail that are met on this way.
-pub fn demanded_redex(rules: &Rules, term: &Flat, at: usize) -> Option<Fit>
-    requires plain { ArePlain rules.now }
+/// left sides fail that are met on this way. Where an operation has no value, the way ends.
+pub fn demanded_redex(rules: &Rules, symbols: &Symbols, term: &Flat, at: usize) -> Option<Fit>
     requires regular { AreRegular rules.now }
+    requires distinct { HasOneNumberEach symbols.now }
+    requires live { IsLiveTerm symbols.now term.now }
     requires at { at < size term.now }
-    ensures { MatchOption result (HasNoDemandedRedex (plain_system rules.now) (nth_subtree term.now at)) (IsDemandedFit (plain_system rules.now) term.now at) }
+    ensures { (values : Values) → AreValuesBy symbols.now values →
+        MatchOption result
+        (HasNoDemandedRedex (system_of values rules.now) (nth_subtree term.now at))
+        (IsDemandedFit (system_of values rules.now) term.now at) }
 {
     let mut node = at;
     let mut last = at;
     loop {
         match look_at(rules, term, node) {
-            Look::Fits(equation) => return Some(Fit { at: node, equation }),
+            Look::Meets(number) => {
+                if !has_result(rules.equation(number), symbols, term, node) {
+                    return None;
+                }
+                return Some(Fit {
+                    at: node,
+                    equation: number,
+                });
+            }
             Look::Fails(failing) => last = last.max(failing),
         }
         if last == node {
@@ -49,16 +66,17 @@ pub fn demanded_redex(rules: &Rules, term: &Flat, at: usize) -> Option<Fit>
     }
 }
 
-/// The last of the nodes at which the left sides at a node first fail, where none fits there.
-pub fn last_failure(rules: &Rules, term: &Flat, at: usize) -> usize
-    requires plain { ArePlain rules.now }
+/// The last of the nodes at which the left sides at a node first fail; none where one is met there.
+pub fn last_failure(rules: &Rules, term: &Flat, at: usize) -> Option<usize>
+    requires regular { AreRegular rules.now }
     requires at { at < size term.now }
-    requires none { HasNoDemandedRedex (plain_system rules.now) (nth_subtree term.now at) }
-    ensures { IsLook rules.now term.now at (Look.Fails result) }
+    ensures { MatchOption result
+        ((number : ℕ) × IsLook rules.now term.now at (Look.Meets number))
+        (λ last. IsLook rules.now term.now at (Look.Fails last)) }
 {
     match look_at(rules, term, at) {
-        Look::Fits(_) => unreachable!(),
-        Look::Fails(last) => last,
+        Look::Meets(_) => None,
+        Look::Fails(last) => Some(last),
     }
 }
 

@@ -1,136 +1,189 @@
-// The laws of rewriting by an orthogonal system of rules: each is the contract of a function that does nothing.
-ghost use Rattle.std.specs.Prelude.{◌≡◌, ◌≢◌, ◌⊎◌, ◌↔◌, ℕ, suc, Bool, List, Option, ◌<◌, ◌≤◌, [], Contains, IsTrue, IsFalse};
+// The laws of rewriting by a well-formed and orthogonal system of rules, each the contract of a function that
+// does nothing.
+ghost use Rattle.std.specs.Prelude.{◌≡◌, ◌≢◌, ◌⊎◌, ◌↔◌, ℕ, suc, Bool, List, ◌<◌, ◌≤◌, [], Contains, IsTrue, IsFalse};
 ghost use Rattle.eq_base.specs.Tree.{Tree, head_of, Position};
 ghost use Rattle.eq_base.specs.Pattern.{IsInstanceOf};
 ghost use Rattle.eq_base.specs.Testing.{IsTestedAt};
 ghost use Rattle.eq_base.specs.Rewriting.{System, Rule, RootStep, IsRedex, StepAt, IsDerivable, IsNormal};
 ghost use Rattle.eq_base.specs.Rules.{system_of};
-ghost use Rattle.eq_base.specs.declared.head.Head.{Head};
-ghost use Rattle.eq_base.specs.declared.rules.Op.{Op};
+ghost use Rattle.eq_base.specs.ReadHead.{ReadHead};
 ghost use Rattle.eq_base.specs.declared.rules.Equation.{Equation};
+ghost use Rattle.symbol_table.specs.Table.{Table};
+ghost use Rattle.symbol_table.specs.Reading.{read_system};
 ghost use Rattle.sequentiality.specs.Regular.{AreRegular};
-ghost use Rattle.orthogonal_laws.specs.Orthogonal.{IsWellFormed, IsOrthogonal};
+ghost use Rattle.orthogonal_laws.specs.Orthogonal.{IsLawful};
 ghost use Rattle.orthogonal_laws.specs.Strategy.{IsDemanded, IsDemandedRedex, HasNoDemandedRedex, IsNext, HasNoNext, PlainRun, HasLength, IsOutermost, Answers};
 ghost use Rattle.orthogonal_laws.specs.Development.{Development, marks, AreRedexes, DevelopsBy, SharedStep, IsKept};
 ghost use Rattle.orthogonal_laws.specs.Convertible.{IsConvertible};
 ghost use Rattle.orthogonal_laws.specs.Addition.{addition};
-ghost use Rattle.orthogonal_laws.specs.Operations.{ReadConstants, HaveNoOperations};
-ghost use Rattle.orthogonal_laws.specs.Plain.{plain_system, ArePlain};
-
-use eq_base::Head;
+ghost use Rattle.orthogonal_laws.specs.Operations.{Values, ReadConstants};
+ghost use Rattle.orthogonal_laws.specs.Readings.{AreRegularIn};
 
 /// Addition of Peano numerals is well formed and orthogonal, so the conditions of the laws can be met.
 pub fn addition_is_orthogonal()
-    ensures well_formed { IsWellFormed addition }
-    ensures orthogonal { IsOrthogonal addition }
+    ensures { IsLawful addition }
 {}
 
 /// A root step has one result, whichever rule fits.
 pub fn one_result<H>()
-    ensures { (system : System H) → IsWellFormed system → IsOrthogonal system → (t u v : Tree H) → RootStep system t u → RootStep system t v → u ≡ v }
+    ensures { (system : System H) → IsLawful system
+        → (t u v : Tree H) → RootStep system t u → RootStep system t v → u ≡ v }
 {}
 
 /// Whether a term is a redex, and whether a position of it is demanded, is decided.
 pub fn demand_is_decided<H>()
-    ensures redex { (system : System H) → IsWellFormed system → IsOrthogonal system → (t : Tree H) → IsRedex system t ⊎ (IsRedex system t → ⊥) }
-    ensures position { (system : System H) → IsWellFormed system → IsOrthogonal system → (t : Tree H) (q : Position) → IsDemanded system t q ⊎ (IsDemanded system t q → ⊥) }
+    ensures redex { (system : System H) → IsLawful system
+        → (t : Tree H) → IsRedex system t ⊎ (IsRedex system t → ⊥) }
+    ensures position { (system : System H) → IsLawful system
+        → (t : Tree H) (q : Position) → IsDemanded system t q ⊎ (IsDemanded system t q → ⊥) }
 {}
 
 /// A term has one demanded redex, or has none.
 pub fn demanded_redex_is_one<H>()
-    ensures found { (system : System H) → IsWellFormed system → IsOrthogonal system → (t : Tree H) → HasNoDemandedRedex system t ⊎ ((q : Position) × IsDemandedRedex system t q) }
-    ensures apart { (system : System H) → IsWellFormed system → IsOrthogonal system → (t : Tree H) (q : Position) → IsDemandedRedex system t q → HasNoDemandedRedex system t → ⊥ }
-    ensures one { (system : System H) → IsWellFormed system → IsOrthogonal system → (t : Tree H) (p q : Position) → IsDemandedRedex system t p → IsDemandedRedex system t q → p ≡ q }
+    ensures found { (system : System H) → IsLawful system
+        → (t : Tree H) → HasNoDemandedRedex system t ⊎ ((q : Position) × IsDemandedRedex system t q) }
+    ensures apart { (system : System H) → IsLawful system
+        → (t : Tree H) (q : Position) → IsDemandedRedex system t q → HasNoDemandedRedex system t → ⊥ }
+    ensures one { (system : System H) → IsLawful system
+        → (t : Tree H) (p q : Position) → IsDemandedRedex system t p → IsDemandedRedex system t q → p ≡ q }
 {}
 
 /// A term without a demanded redex keeps its head, and stays without one, under every development.
 pub fn no_demand_stays<H>()
-    ensures { (system : System H) → IsWellFormed system → IsOrthogonal system → (t u : Tree H) (n : ℕ) → HasNoDemandedRedex system t → Development system t u n → (head_of u ≡ head_of t) × HasNoDemandedRedex system u }
+    ensures { (system : System H) → IsLawful system
+        → (t u : Tree H) (n : ℕ) → HasNoDemandedRedex system t → Development system t u n
+        → (head_of u ≡ head_of t) × HasNoDemandedRedex system u }
 {}
 
 /// An instance of a tested part of a left side, other than the whole, has no demanded redex.
 pub fn part_without_demand<H>()
-    ensures { (system : System H) → IsWellFormed system → IsOrthogonal system → (rule : Rule H) → Contains system.rules rule → (q : Position) → q ≢ [] → (tested : IsTestedAt rule.left q) → (t : Tree H) → IsInstanceOf system.in_class tested.part t → HasNoDemandedRedex system t }
+    ensures { (system : System H) → IsLawful system
+        → (rule : Rule H) → Contains system.rules rule → (q : Position) → q ≢ []
+        → (tested : IsTestedAt rule.left q) → (t : Tree H) → IsInstanceOf system.in_class tested.part t
+        → HasNoDemandedRedex system t }
 {}
 
 /// The next redex lies inside no other one, is there exactly where a term is not normal, and is one.
 pub fn next_is_outermost<H>()
-    ensures outermost { (system : System H) → IsWellFormed system → IsOrthogonal system → (t : Tree H) (q : Position) → IsNext system t q → IsOutermost system t q }
-    ensures found { (system : System H) → IsWellFormed system → IsOrthogonal system → (t : Tree H) → IsNormal system t ⊎ ((q : Position) × IsNext system t q) }
-    ensures redex_left { (system : System H) → IsWellFormed system → IsOrthogonal system → (t : Tree H) (q : Position) → IsNext system t q → IsNormal system t → ⊥ }
-    ensures none { (system : System H) → IsWellFormed system → IsOrthogonal system → (t : Tree H) → HasNoNext system t ↔ IsNormal system t }
-    ensures one { (system : System H) → IsWellFormed system → IsOrthogonal system → (t : Tree H) (p q : Position) → IsNext system t p → IsNext system t q → p ≡ q }
+    ensures outermost { (system : System H) → IsLawful system
+        → (t : Tree H) (q : Position) → IsNext system t q → IsOutermost system t q }
+    ensures found { (system : System H) → IsLawful system
+        → (t : Tree H) → IsNormal system t ⊎ ((q : Position) × IsNext system t q) }
+    ensures redex_left { (system : System H) → IsLawful system
+        → (t : Tree H) (q : Position) → IsNext system t q → IsNormal system t → ⊥ }
+    ensures none { (system : System H) → IsLawful system
+        → (t : Tree H) → HasNoNext system t ↔ IsNormal system t }
+    ensures one { (system : System H) → IsLawful system
+        → (t : Tree H) (p q : Position) → IsNext system t p → IsNext system t q → p ≡ q }
 {}
 
 /// Each set of redexes of a term has its development, and one only, with one weight.
 pub fn redexes_develop<H>()
-    ensures one { (system : System H) → IsWellFormed system → IsOrthogonal system → (t u v : Tree H) (m n : ℕ) (d : Development system t u m) (e : Development system t v n) → ((q : Position) → marks d q ≡ marks e q) → (u ≡ v) × (m ≡ n) }
-    ensures found { (system : System H) → IsWellFormed system → IsOrthogonal system → (t : Tree H) (set : Position → Bool) → AreRedexes system t set → DevelopsBy system t set }
+    ensures one { (system : System H) → IsLawful system
+        → (t u v : Tree H) (m n : ℕ) (d : Development system t u m) (e : Development system t v n)
+        → ((q : Position) → marks d q ≡ marks e q) → (u ≡ v) × (m ≡ n) }
+    ensures found { (system : System H) → IsLawful system
+        → (t : Tree H) (set : Position → Bool) → AreRedexes system t set → DevelopsBy system t set }
 {}
 
-/// A development that does not mark the next redex leaves it in place, by the same rules, and the steps made there are joined by a development.
+/// A development that does not mark the next redex leaves it in place, by the same rules, and the steps
+/// made there are joined by a development.
 pub fn next_is_kept<H>()
-    ensures { (system : System H) → IsWellFormed system → IsOrthogonal system → (t t' u : Tree H) (q : Position) (n : ℕ) → IsNext system t q → StepAt system t q t' → (d : Development system t u n) → IsFalse (marks d q) → IsKept system t t' u q }
+    ensures { (system : System H) → IsLawful system
+        → (t t' u : Tree H) (q : Position) (n : ℕ) → IsNext system t q → StepAt system t q t'
+        → (d : Development system t u n) → IsFalse (marks d q) → IsKept system t t' u q }
 {}
 
-/// A development that marks the next redex is the step there, followed by a development of a weight smaller by 1.
+/// A development that marks the next redex is the step there, followed by a development of a weight
+/// smaller by 1.
 pub fn next_is_marked<H>()
-    ensures { (system : System H) → IsWellFormed system → IsOrthogonal system → (t t' u : Tree H) (q : Position) (n : ℕ) → IsNext system t q → StepAt system t q t' → (d : Development system t u n) → IsTrue (marks d q) → (m : ℕ) × Development system t' u m × (n ≡ suc m) }
+    ensures { (system : System H) → IsLawful system
+        → (t t' u : Tree H) (q : Position) (n : ℕ) → IsNext system t q → StepAt system t q t'
+        → (d : Development system t u n) → IsTrue (marks d q) → (m : ℕ) × Development system t' u m
+        × (n ≡ suc m) }
 {}
 
 /// A term that develops to one whose plain run ends has a plain run that ends alike.
 pub fn run_before_development<H>()
-    ensures { (system : System H) → IsWellFormed system → IsOrthogonal system → (t u v : Tree H) (m n : ℕ) → Development system t u m → HasLength system u n v → (k : ℕ) × HasLength system t k v }
+    ensures { (system : System H) → IsLawful system
+        → (t u v : Tree H) (m n : ℕ) → Development system t u m → HasLength system u n v → (k : ℕ)
+        × HasLength system t k v }
 {}
 
 /// Where any derivation ends in a normal form, the plain run ends in it, and it is the only one.
 pub fn run_finds<H>()
-    ensures found { (system : System H) → IsWellFormed system → IsOrthogonal system → (t v : Tree H) → IsDerivable system t v → IsNormal system v → (n : ℕ) × HasLength system t n v }
-    ensures one_run { (system : System H) → IsWellFormed system → IsOrthogonal system → (t u v : Tree H) (m n : ℕ) → HasLength system t m u → HasLength system t n v → (m ≡ n) × (u ≡ v) }
-    ensures one_end { (system : System H) → IsWellFormed system → IsOrthogonal system → (t u v : Tree H) → IsDerivable system t u → IsNormal system u → IsDerivable system t v → IsNormal system v → u ≡ v }
+    ensures found { (system : System H) → IsLawful system
+        → (t v : Tree H) → IsDerivable system t v → IsNormal system v → (n : ℕ) × HasLength system t n v }
+    ensures one_run { (system : System H) → IsLawful system
+        → (t u v : Tree H) (m n : ℕ) → HasLength system t m u → HasLength system t n v → (m ≡ n) × (u ≡ v) }
+    ensures one_end { (system : System H) → IsLawful system
+        → (t u v : Tree H) → IsDerivable system t u → IsNormal system u → IsDerivable system t v
+        → IsNormal system v → u ≡ v }
 {}
 
-/// With a budget of steps the plain run comes to its end, or leaves a redex after the whole budget; and then its length is not at most the budget.
+/// With a budget of steps the plain run comes to its end, or leaves a redex after the whole budget; and
+/// then its length is not at most the budget.
 pub fn budget_answers<H>()
-    ensures answered { (system : System H) → IsWellFormed system → IsOrthogonal system → (budget : ℕ) (t : Tree H) → Answers system t budget }
-    ensures spent_right { (system : System H) → IsWellFormed system → IsOrthogonal system → (t u v : Tree H) (budget n : ℕ) → PlainRun system t budget u → (IsNormal system u → ⊥) → HasLength system t n v → budget < n }
+    ensures answered { (system : System H) → IsLawful system
+        → (budget : ℕ) (t : Tree H) → Answers system t budget }
+    ensures spent_right { (system : System H) → IsLawful system
+        → (t u v : Tree H) (budget n : ℕ) → PlainRun system t budget u → (IsNormal system u → ⊥)
+        → HasLength system t n v → budget < n }
 {}
 
 /// A development makes no plain run longer, and a shared step makes it shorter.
 pub fn run_after_development<H>()
-    ensures developed { (system : System H) → IsWellFormed system → IsOrthogonal system → (t u v : Tree H) (m n : ℕ) → Development system t u m → HasLength system t n v → (k : ℕ) × HasLength system u k v × (k ≤ n) }
-    ensures shared { (system : System H) → IsWellFormed system → IsOrthogonal system → (t u v : Tree H) (n : ℕ) → SharedStep system t u → HasLength system t n v → (k : ℕ) × HasLength system u k v × (suc k ≤ n) }
+    ensures developed { (system : System H) → IsLawful system
+        → (t u v : Tree H) (m n : ℕ) → Development system t u m → HasLength system t n v → (k : ℕ)
+        × HasLength system u k v × (k ≤ n) }
+    ensures shared { (system : System H) → IsLawful system
+        → (t u v : Tree H) (n : ℕ) → SharedStep system t u → HasLength system t n v → (k : ℕ)
+        × HasLength system u k v × (suc k ≤ n) }
 {}
 
 /// Two developments of one term have a common development.
 pub fn developments_meet<H>()
-    ensures { (system : System H) → IsWellFormed system → IsOrthogonal system → (t u v : Tree H) (m n : ℕ) → Development system t u m → Development system t v n → (r : Tree H) × (k : ℕ) × (l : ℕ) × Development system u r k × Development system v r l }
+    ensures { (system : System H) → IsLawful system
+        → (t u v : Tree H) (m n : ℕ) → Development system t u m → Development system t v n → (r : Tree H)
+        × (k : ℕ) × (l : ℕ) × Development system u r k × Development system v r l }
 {}
 
 /// Convertible terms have a common reduct.
 pub fn convertible_meet<H>()
-    ensures { (system : System H) → IsWellFormed system → IsOrthogonal system → (t u : Tree H) → IsConvertible system t u → (v : Tree H) × IsDerivable system t v × IsDerivable system u v }
+    ensures { (system : System H) → IsLawful system
+        → (t u : Tree H) → IsConvertible system t u → (v : Tree H) × IsDerivable system t v
+        × IsDerivable system u v }
 {}
 
-/// Regular equations give a well-formed and orthogonal system, if operations read nothing but constants.
+/// Regular equations give a well-formed and orthogonal system, whatever values operations have: these
+/// read nothing but constants.
 pub fn regular_is_orthogonal()
-    ensures well_formed { (value_of : Op → Tree Head → Option (Tree Head)) (equations : List Equation) → AreRegular equations → ReadConstants value_of equations → IsWellFormed (system_of value_of equations) }
-    ensures orthogonal { (value_of : Op → Tree Head → Option (Tree Head)) (equations : List Equation) → AreRegular equations → IsOrthogonal (system_of value_of equations) }
+    ensures constants { (value_of : Values) (equations : List Equation) → AreRegular equations
+        → ReadConstants value_of equations }
+    ensures lawful { (value_of : Values) (equations : List Equation) → AreRegular equations
+        → IsLawful (system_of value_of equations) }
 {}
 
-/// Regular equations without operations are plain, and their system is well formed.
-pub fn regular_is_plain()
-    ensures plain { (equations : List Equation) → AreRegular equations → HaveNoOperations equations → ArePlain equations }
-    ensures well_formed { (equations : List Equation) → AreRegular equations → IsWellFormed (plain_system equations) }
+/// Regular equations, as they are read by a table in which their numbers are live, give a well-formed and
+/// orthogonal system, with the values of operations.
+pub fn read_is_orthogonal()
+    ensures { (table : Table) (equations : List Equation) → AreRegularIn table equations
+        → IsLawful (read_system table equations) }
 {}
 
-/// Where regular equations lead from a term to a normal form, by steps in any order, the plain run ends in it.
-/// The length of the plain run and its end are fixed by equations and term, and a term has no second normal form.
+/// Where regular equations, as they are read, lead from a term to a normal form, by steps in any order,
+/// the plain run ends in it. The length of the plain run and its end are fixed by equations and term, and
+/// a term has no second normal form.
 pub fn only_normal_form()
-    ensures found { (value_of : Op → Tree Head → Option (Tree Head)) (equations : List Equation) → AreRegular equations → ReadConstants value_of equations → (t v : Tree Head) → IsDerivable (system_of value_of equations) t v → IsNormal (system_of value_of equations) v → (n : ℕ) × HasLength (system_of value_of equations) t n v }
-    ensures one_run { (value_of : Op → Tree Head → Option (Tree Head)) (equations : List Equation) → AreRegular equations → ReadConstants value_of equations → (t u v : Tree Head) (m n : ℕ) → HasLength (system_of value_of equations) t m u → HasLength (system_of value_of equations) t n v → (m ≡ n) × (u ≡ v) }
-    ensures one_end { (value_of : Op → Tree Head → Option (Tree Head)) (equations : List Equation) → AreRegular equations → ReadConstants value_of equations → (t u v : Tree Head) → IsDerivable (system_of value_of equations) t u → IsNormal (system_of value_of equations) u → IsDerivable (system_of value_of equations) t v → IsNormal (system_of value_of equations) v → u ≡ v }
-{
-    regular_is_orthogonal();
-    run_finds::<Head>();
-}
+    ensures found { (table : Table) (equations : List Equation) → AreRegularIn table equations
+        → (t v : Tree ReadHead) → IsDerivable (read_system table equations) t v
+        → IsNormal (read_system table equations) v → (n : ℕ)
+        × HasLength (read_system table equations) t n v }
+    ensures one_run { (table : Table) (equations : List Equation) → AreRegularIn table equations
+        → (t u v : Tree ReadHead) (m n : ℕ) → HasLength (read_system table equations) t m u
+        → HasLength (read_system table equations) t n v → (m ≡ n) × (u ≡ v) }
+    ensures one_end { (table : Table) (equations : List Equation) → AreRegularIn table equations
+        → (t u v : Tree ReadHead) → IsDerivable (read_system table equations) t u
+        → IsNormal (read_system table equations) u → IsDerivable (read_system table equations) t v
+        → IsNormal (read_system table equations) v → u ≡ v }
+{}

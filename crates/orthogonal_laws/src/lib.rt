@@ -5,12 +5,14 @@ mod demand;
 pub mod laws;
 mod matching;
 pub mod next;
-pub mod plain;
+pub mod past;
 mod replacing;
 pub mod run;
+mod step;
+mod values;
 
 pub use next::{Next, plain_next};
-pub use plain::are_plain;
+pub use past::first_past;
 pub use run::{PlainEnd, plain_run};
 
 #[cfg(test)]

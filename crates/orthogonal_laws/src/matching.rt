@@ -3,8 +3,8 @@ ghost use Rattle.std.specs.Prelude.{◌≡◌, ◌<◌, ◌≤◌, ◌-◌, ◌�
 ghost use Rattle.eq_base.specs.Tree.{size, nth_subtree};
 ghost use Rattle.eq_base.specs.Pattern.{IsLinear, IsInstanceOf};
 ghost use Rattle.eq_base.specs.Meeting.{in_symbol_class};
+ghost use Rattle.sequentiality.specs.Regular.{AreRegular};
 ghost use Rattle.orthogonal_laws.specs.Matching.{Stands, FailsAt};
-ghost use Rattle.orthogonal_laws.specs.Plain.{plain_system, ArePlain};
 ghost use Rattle.orthogonal_laws.specs.Looking.{IsLook};
 
 use eq_base::{Cell, Flat, Pattern, Rules, is_in_class};
@@ -12,22 +12,22 @@ use eq_base::{Cell, Flat, Pattern, Rules, is_in_class};
 /// What the left sides come to at a node.
 #[derive(Clone, Copy)]
 pub enum Look {
-    /// The first equation that fits there, by its number, counted from 0.
-    Fits(usize),
-    /// None fits, and this is the last of the nodes at which they first fail.
+    /// The first equation whose left side is met there, by its number, counted from 0.
+    Meets(usize),
+    /// None is met, and this is the last of the nodes at which they first fail.
     Fails(usize),
 }
 
 /// What the left sides come to at a node.
 pub fn look_at(rules: &Rules, term: &Flat, at: usize) -> Look
-    requires plain { ArePlain rules.now }
+    requires regular { AreRegular rules.now }
     requires at { at < size term.now }
     ensures { IsLook rules.now term.now at result }
 {
     let mut last = at;
     for equation in 0..rules.len() {
         match first_mismatch(&rules.equation(equation).left, term, at) {
-            None => return Look::Fits(equation),
+            None => return Look::Meets(equation),
             Some(node) => last = last.max(node),
         }
     }

@@ -1,37 +1,47 @@
 // A term after one replacement.
 ghost use Rattle.std.specs.Prelude.{◌≡◌, ◌<◌, ◌≤◌, ◌++◌, OnOk, IfOk, Contains, slice_range};
-ghost use Rattle.eq_base.specs.Tree.{size, nth_subtree, cells};
+ghost use Rattle.eq_base.specs.Tree.{node, empty, size, nth_subtree, nth_position, replace_at, cells};
 ghost use Rattle.eq_base.specs.Pattern.{Substitution, apply, variables, IsInstanceOf};
-ghost use Rattle.eq_base.specs.Rewriting.{IsRedexBy};
+ghost use Rattle.eq_base.specs.Cells.{TakesArguments};
 ghost use Rattle.eq_base.specs.Meeting.{in_symbol_class};
 ghost use Rattle.eq_base.specs.declared.head.Head.{Head};
-ghost use Rattle.orthogonal_laws.specs.Plain.{plain_system, ArePlain, IsOver};
-ghost use Rattle.orthogonal_laws.specs.Replacing.{HasRoom, IsStepBy};
+ghost use Rattle.orthogonal_laws.specs.Replacing.{HasRoom, IsOver};
 
-use eq_base::{Cell, Flat, FlatMaker, NoMemory, Pattern, Right, Rules};
+use eq_base::{Cell, Flat, FlatMaker, Head, NoMemory, Pattern};
 use std::alloc::Global;
 
-/// The term after the root step by an equation at a node.
+/// The term with the value of a right side in the place of a node that its left side fits.
 pub fn replace(
     alloc: Global,
-    rules: &Rules,
+    left: &Pattern,
+    right: &Pattern,
     term: &Flat,
     at: usize,
-    equation: usize,
 ) -> Result<Flat, NoMemory>
-    requires plain { ArePlain rules.now }
     requires at { at < size term.now }
-    requires redex { IsRedexBy (plain_system rules.now) equation (nth_subtree term.now at) }
-    ensures { IfOk result (λ after. IsStepBy (plain_system rules.now) term.now at equation after) }
+    requires fits { IsInstanceOf in_symbol_class left.now (nth_subtree term.now at) }
+    requires over { IsOver (variables left.now) right.now }
+    ensures { IfOk result (λ after. (σ : Substitution Head) → apply σ left.now ≡ nth_subtree term.now at
+        → after ≡ replace_at term.now (nth_position term.now at) (apply σ right.now)) }
 {
     let mut maker = FlatMaker::new(alloc);
     let end = term.end_of(at);
     copy(&mut maker, term, 0, at)?;
-    let rule = rules.equation(equation);
-    let Right::Tree(right) = &rule.right else {
-        unreachable!()
-    };
-    push_right(&mut maker, right, &rule.left, term, at)?;
+    push_right(&mut maker, right, left, term, at)?;
+    copy(&mut maker, term, end, term.len())?;
+    Ok(maker.finish())
+}
+
+/// The term with a constant in the place of a node.
+pub fn put(alloc: Global, head: Head, term: &Flat, at: usize) -> Result<Flat, NoMemory>
+    requires at { at < size term.now }
+    ensures { IfOk result (λ after. after
+        ≡ replace_at term.now (nth_position term.now at) (node head empty)) }
+{
+    let mut maker = FlatMaker::new(alloc);
+    let end = term.end_of(at);
+    copy(&mut maker, term, 0, at)?;
+    maker.push_cell(head, 0)?;
     copy(&mut maker, term, end, term.len())?;
     Ok(maker.finish())
 }
@@ -60,8 +70,10 @@ fn push_right(
     requires at { at < size term.now }
     requires fits { IsInstanceOf in_symbol_class left.now (nth_subtree term.now at) }
     requires over { IsOver (variables left.now) right.now }
-    requires room { (σ : Substitution Head) → apply σ left.now ≡ nth_subtree term.now at → HasRoom maker.old (cells (apply σ right.now)) }
-    ensures { OnOk result ((σ : Substitution Head) → apply σ left.now ≡ nth_subtree term.now at → maker.new ≡ maker.old ++ cells (apply σ right.now)) }
+    requires room { (σ : Substitution Head) → apply σ left.now ≡ nth_subtree term.now at
+        → HasRoom maker.old (cells (apply σ right.now)) }
+    ensures { OnOk result ((σ : Substitution Head) → apply σ left.now ≡ nth_subtree term.now at → maker.new
+        ≡ maker.old ++ cells (apply σ right.now)) }
 {
     let mut i = 0;
     while i < right.len() {
@@ -84,7 +96,8 @@ fn find(left: &Pattern, term: &Flat, at: usize, variable: u32) -> usize
     requires fits { IsInstanceOf in_symbol_class left.now (nth_subtree term.now at) }
     requires occurs { Contains (variables left.now) variable }
     ensures there { result < size term.now }
-    ensures value { (σ : Substitution Head) → apply σ left.now ≡ nth_subtree term.now at → σ variable ≡ nth_subtree term.now result }
+    ensures value { (σ : Substitution Head) → apply σ left.now ≡ nth_subtree term.now at → σ variable
+        ≡ nth_subtree term.now result }
 {
     let len = term.len();
     let mut i = 0;

@@ -1,16 +1,23 @@
 // Terms and equations of the tests, by the numbers of their symbols: eight for each number of arguments.
-ghost use Rattle.std.specs.Prelude.{◌≡◌, ◌<◌, ◌≤◌, IsTrue, IfSome, length};
-ghost use Rattle.regularity.specs.WellFormed.{IsWellFormed, AreWellFormed};
-ghost use Rattle.regularity.specs.Arities.{HasArities};
-ghost use Rattle.orthogonal_laws.specs.Plain.{ArePlain};
-ghost use Rattle.orthogonal_laws.specs.Samples.{sample_arity, IsSample};
+ghost use Rattle.std.specs.Prelude.{◌≡◌, ◌+◌, ◌≤◌, IsTrue, IfOk, length};
+ghost use Rattle.eq_base.specs.Cells.{kind_of};
+ghost use Rattle.symbol_table.specs.Table.{IsLive};
+ghost use Rattle.symbol_table.specs.Reading.{IsLiveHead, IsLiveTerm, IsLiveCell, IsLivePattern, IsLiveEquation, AreLive};
+ghost use Rattle.orthogonal_laws.specs.Operations.{AreTruthsKnown};
 
-use crate::are_plain;
+use crate::next::{Next, plain_next};
+use crate::past::first_past;
+use crate::run::{PlainEnd, plain_run};
 use eq_base::{
     Cell, Equation, Flat, FlatMaker, Head, NoMemory, Origin, Pattern, PatternMaker, Right, Rules,
 };
+use regularity::are_well_formed;
 use sequentiality::Regular;
 use std::alloc::Global;
+use symbol_table::{SymbolError, Symbols};
+
+// The number behind those of the symbols.
+const END: u8 = 24;
 
 /// The cell of a symbol.
 pub fn head(symbol: u8) -> Cell {
@@ -73,65 +80,144 @@ pub fn add(
     Ok(())
 }
 
-/// The equations as regular ones, where they are plain, well formed and regular.
-pub fn admitted(alloc: Global, rules: Rules) -> Option<Regular>
-    ensures { IfSome result (λ regular. ArePlain regular) }
-{
-    if !are_plain(&rules) || !are_well_formed(&rules) {
-        return None;
+/// The equations as regular ones, where they are well formed and regular.
+pub fn admitted(alloc: Global, rules: Rules) -> Result<Option<Regular>, NoMemory> {
+    let mut arities: Vec<u8> = Vec::new(alloc);
+    for symbol in 0..END {
+        arities.push(symbol / 8)?;
     }
-    let Ok(regular) = Regular::admit(alloc, rules) else {
-        return None;
-    };
-    Some(regular)
+    if !are_well_formed(&rules, &arities) {
+        return Ok(None);
+    }
+    Ok(Regular::admit(alloc, rules).ok())
 }
 
-// Whether the equations are few and small, with a symbol at the root of each left side, and each
-// symbol with its number of arguments.
-fn are_well_formed(rules: &Rules) -> bool
-    ensures { IsTrue result → AreWellFormed rules.now }
-{
-    if rules.len() > 2048 {
-        return false;
+/// A table of all symbols, named by letters, with the atom 0 and the strings 0 and 1.
+pub fn names(alloc: Global) -> Result<Symbols, SymbolError> {
+    let mut symbols = Symbols::new(alloc);
+    symbols.include(b"truth_values")?;
+    for symbol in 2..END {
+        symbols.declare(&[b'a' + symbol], i128::from(symbol / 8))?;
     }
+    symbols.intern_atom(b"at")?;
+    symbols.intern_text(b"a")?;
+    symbols.intern_text(b"b")?;
+    Ok(symbols)
+}
+
+// ---- calls, where their conditions are met
+
+/// The next redex, where all numbers are live.
+pub fn next_of(regular: &Regular, symbols: &Symbols, term: &Flat) -> Option<Next> {
+    if !are_live(regular.rules(), symbols) || !is_live_term(term, symbols) {
+        return None;
+    }
+    Some(plain_next(regular, symbols, term))
+}
+
+/// The first node past the limits, where all numbers are live.
+pub fn past_of(regular: &Regular, symbols: &Symbols, term: &Flat) -> Option<usize> {
+    if !are_live(regular.rules(), symbols) || !is_live_term(term, symbols) {
+        return None;
+    }
+    first_past(regular, symbols, term)
+}
+
+/// How a run ends, where all numbers are live and the truth values are included.
+pub fn run_of(
+    alloc: Global,
+    regular: &Regular,
+    symbols: &mut Symbols,
+    term: Flat,
+    budget: u64,
+) -> Result<Option<PlainEnd>, NoMemory> {
+    if !are_live(regular.rules(), symbols)
+        || !is_live_term(&term, symbols)
+        || !knows_truths(regular.rules(), symbols)
+    {
+        return Ok(None);
+    }
+    Ok(Some(plain_run(alloc, regular, symbols, term, budget)?))
+}
+
+fn knows_truths(rules: &Rules, symbols: &Symbols) -> bool
+    ensures { IsTrue result → AreTruthsKnown symbols.now rules.now }
+{
+    symbols.included(2)
+}
+
+fn are_live(rules: &Rules, symbols: &Symbols) -> bool
+    ensures { IsTrue result → AreLive symbols.now rules.now }
+{
     for number in 0..rules.len() {
-        let equation = rules.equation(number);
-        if !is_well_formed(equation) || !has_arities(&equation.left) {
+        if !is_live_equation(rules.equation(number), symbols) {
             return false;
         }
     }
     true
 }
 
-fn is_well_formed(equation: &Equation) -> bool
-    ensures { IsTrue result → IsWellFormed equation.now }
+fn is_live_equation(equation: &Equation, symbols: &Symbols) -> bool
+    ensures { IsTrue result → IsLiveEquation symbols.now equation.now }
 {
-    let small = match &equation.right {
-        Right::Tree(right) => right.len() <= 65535,
+    let right = match &equation.right {
+        Right::Tree(right) => is_live_pattern(right, symbols),
         Right::Schema(_) => true,
     };
-    small
-        && equation.left.len() <= 255
-        && matches!(equation.left.cell(0), Cell::Head(Head::Symbol(_), _))
+    right && is_live_pattern(&equation.left, symbols)
 }
 
-fn has_arities(pattern: &Pattern) -> bool
-    ensures { IsTrue result → HasArities sample_arity pattern.now }
+fn is_live_pattern(pattern: &Pattern, symbols: &Symbols) -> bool
+    ensures { IsTrue result → IsLivePattern symbols.now pattern.now }
 {
-    for i in 0..pattern.len() {
-        if !is_sample(pattern.cell(i)) {
+    for at in 0..pattern.len() {
+        if !is_live_cell(pattern.cell(at), symbols) {
             return false;
         }
     }
     true
 }
 
-fn is_sample(cell: Cell) -> bool
-    ensures { IsTrue result → IsSample cell }
+fn is_live_cell(cell: Cell, symbols: &Symbols) -> bool
+    ensures { IsTrue result → IsLiveCell symbols.now (kind_of cell) }
 {
     match cell {
-        Cell::Head(Head::Symbol(symbol), arity) => u32::from(arity) == symbol / 8,
-        Cell::Head(_, _) => false,
+        Cell::Head(head, _) => is_live_head(head, symbols),
         Cell::Var(_) | Cell::Class(_, _) => true,
+    }
+}
+
+fn is_live_term(term: &Flat, symbols: &Symbols) -> bool
+    ensures { IsTrue result → IsLiveTerm symbols.now term.now }
+{
+    for at in 0..term.len() {
+        if !is_live_head(term.head(at), symbols) {
+            return false;
+        }
+    }
+    true
+}
+
+fn is_live_head(head: Head, symbols: &Symbols) -> bool
+    ensures { IsTrue result → IsLiveHead symbols.now head }
+{
+    match head {
+        Head::Symbol(0) => has_name(symbols, b"true", 0),
+        Head::Symbol(1) => has_name(symbols, b"false", 1),
+        Head::Symbol(symbol) => {
+            symbol < u32::from(END) && has_name(symbols, &[b'a' + symbol as u8], symbol)
+        }
+        Head::Numeral(_) => true,
+        Head::Atom(number) => number < symbols.mark().atoms,
+        Head::Text(number) => number < symbols.mark().texts,
+    }
+}
+
+fn has_name(symbols: &Symbols, name: &[u8], symbol: u32) -> bool
+    ensures { IsTrue result → IsLive symbols.now symbol }
+{
+    match symbols.find(name) {
+        Some((number, _)) => number == symbol,
+        None => false,
     }
 }

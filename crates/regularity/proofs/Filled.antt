@@ -7,7 +7,6 @@ use Rattle.std.proofs.lemmas.List.{append-nil}
 use Rattle.eq_base.specs.Tree.{Tree, Forest, node, empty, grow, head_of, args_of, count, size, nth_subtree, map_heads, map_all_heads, Position, subtree_at, subtree_in}
 use Rattle.eq_base.specs.Storing.{join}
 use Rattle.eq_base.specs.Pattern.{PatternCell, fixed, variable, restricted, Classes, Substitution, variables, all_variables, IsLinear}
-use Rattle.eq_base.specs.Cells.{root_cell, variable_in}
 use Rattle.eq_base.specs.Meeting.{in_symbol_class}
 use Rattle.eq_base.specs.declared.head.Head as heads
 use Rattle.eq_base.proofs.Instances.{Fits, FitAll, instance_from_fits}
@@ -15,7 +14,7 @@ use Rattle.eq_base.proofs.Scans.{forest_from, forest_from-start, forest_from-nod
 use Rattle.regularity.specs.Arities.{HasArities, HaveArities, AgreeOnArities}
 use Rattle.regularity.specs.Common.{HaveCommon}
 use Rattle.regularity.specs.Facing.{DoClash}
-use Rattle.regularity.specs.Single.{OccursAt, Repeats, IsUnbound}
+use Rattle.regularity.specs.Occurrences.{variable_of, OccursAt, Repeats, IsUnbound}
 use Rattle.regularity.specs.Merge.{merge, merge_all, merged, named, all_named, cell_over, fill, IsOverLeft}
 use Rattle.std.proofs.lemmas.List.Elements.{Contains-append_right, Contains-append_cases}
 use Rattle.regularity.proofs.Faces.{contains_first, contains_here}
@@ -88,12 +87,12 @@ all_variables-join : (ps rs : Patterns) → all_variables (join ps rs) ≡ all_v
 all_variables-join empty rs = refl
 all_variables-join (grow p ps) rs = rw (all_variables-join ps rs, append_assoc (variables p) (all_variables ps) (all_variables rs)) refl
 
-variables-here : (p : Pattern) (x : ℕ) → variable_in (root_cell p) ≡ Some x → variables p ≡ x ∷ []
+variables-here : (p : Pattern) (x : ℕ) → variable_of (head_of p) ≡ Some x → variables p ≡ x ∷ []
 variables-here (node (fixed h) ps) x e = cc
 variables-here (node (variable y) ps) x e = let same : y ≡ x = cc in rw same refl
 variables-here (node (restricted y class) ps) x e = let same : y ≡ x = cc in rw same refl
 
-variables-below : (p : Pattern) → variable_in (root_cell p) ≡ None → variables p ≡ all_variables (args_of p)
+variables-below : (p : Pattern) → variable_of (head_of p) ≡ None → variables p ≡ all_variables (args_of p)
 variables-below (node (fixed h) ps) e = refl
 variables-below (node (variable y) ps) e = cc
 variables-below (node (restricted y class) ps) e = cc
@@ -118,14 +117,14 @@ module _ (arity : heads.Head → ℕ) (p : Pattern) (a : HasArities arity p) whe
   abbrev from : ℕ → List ℕ
   from i = all_variables (forest_from p i)
 
-  from-head : (i : ℕ) → i < size p → variable_in (root_cell (nth_subtree p i)) ≡ None → from i ≡ from (i + 1)
+  from-head : (i : ℕ) → i < size p → variable_of (head_of (nth_subtree p i)) ≡ None → from i ≡ from (i + 1)
   from-head i lt none =
       ap all_variables (forest_from-node p i lt)
       ∙ ap (λ xs. xs ++ from (i + size (nth_subtree p i))) (variables-below (nth_subtree p i) none)
       ∙ sym (all_variables-join (args_of (nth_subtree p i)) (forest_from p (i + size (nth_subtree p i))))
       ∙ ap all_variables (sym (forest_from-args p i lt))
 
-  from-variable : (i x : ℕ) → i < size p → variable_in (root_cell (nth_subtree p i)) ≡ Some x → from i ≡ x ∷ from (i + 1)
+  from-variable : (i x : ℕ) → i < size p → variable_of (head_of (nth_subtree p i)) ≡ Some x → from i ≡ x ∷ from (i + 1)
   from-variable i x lt own =
       let one : size (nth_subtree p i) ≡ 1 = no_head_size arity (nth_subtree p i) (part_has_arities arity p i lt a) (variable_no_head (nth_subtree p i) x own) in
       ap all_variables (forest_from-node p i lt)
@@ -137,9 +136,9 @@ module _ (arity : heads.Head → ℕ) (p : Pattern) (a : HasArities arity p) whe
   occurs_from zero i x e c =
       let none : from i ≡ [] = ap all_variables (forest_from-end p i (omega arith)) in
       absurd (let h : Contains [] x = subst (λ xs. Contains xs x) none c in omega (arith, h.1))
-  occurs_from (suc left) i x e c = by_variable (λ h. let w = occurs_from left (i + 1) x (omega arith) h in (w.0, omega (arith, w.1), w.2)) (variable_in (root_cell (nth_subtree p i))) refl
+  occurs_from (suc left) i x e c = by_variable (λ h. let w = occurs_from left (i + 1) x (omega arith) h in (w.0, omega (arith, w.1), w.2)) (variable_of (head_of (nth_subtree p i))) refl
     where
-      by_variable : (Contains (from (i + 1)) x → (k : ℕ) × (i ≤ k) × OccursAt p k x) → (o : Option ℕ) → variable_in (root_cell (nth_subtree p i)) ≡ o → (k : ℕ) × (i ≤ k) × OccursAt p k x
+      by_variable : (Contains (from (i + 1)) x → (k : ℕ) × (i ≤ k) × OccursAt p k x) → (o : Option ℕ) → variable_of (head_of (nth_subtree p i)) ≡ o → (k : ℕ) × (i ≤ k) × OccursAt p k x
       by_variable later None own = later (subst (λ xs. Contains xs x) (from-head i (omega arith) own) c)
       by_variable later (Some y) own =
           ⊎_elim
@@ -150,9 +149,9 @@ module _ (arity : heads.Head → ℕ) (p : Pattern) (a : HasArities arity p) whe
   module _ (none : (at : ℕ) → Repeats p at → ⊥) where
     distinct_from : (left i : ℕ) → i + left ≡ size p → IsDistinct nat_eq (from i)
     distinct_from zero i e = let no_more : from i ≡ [] = ap all_variables (forest_from-end p i (omega arith)) in rw no_more distinct_none
-    distinct_from (suc left) i e = by_variable (distinct_from left (i + 1) (omega arith)) (variable_in (root_cell (nth_subtree p i))) refl
+    distinct_from (suc left) i e = by_variable (distinct_from left (i + 1) (omega arith)) (variable_of (head_of (nth_subtree p i))) refl
       where
-        by_variable : IsDistinct nat_eq (from (i + 1)) → (o : Option ℕ) → variable_in (root_cell (nth_subtree p i)) ≡ o → IsDistinct nat_eq (from i)
+        by_variable : IsDistinct nat_eq (from (i + 1)) → (o : Option ℕ) → variable_of (head_of (nth_subtree p i)) ≡ o → IsDistinct nat_eq (from i)
         by_variable later None own = rw (from-head i (omega arith) own) later
         by_variable later (Some y) own =
             rw (from-variable i y (omega arith) own)
@@ -180,8 +179,8 @@ occurs_or_not p x (suc n) =
     ⊎_elim (λ found. inl found)
     (λ none. ⊎_elim
     (λ is. ⊎_elim (λ lt. inl (n, record { there = lt; is = is })) (λ past. inr (λ k lt o. ⊎_elim (λ below. none k below o) (λ at. absurd (omega (arith, o.there))) (cases_lt k n))) (cases_lt n (size p)))
-    (λ differ. inr (λ k lt o. ⊎_elim (λ below. none k below o) (λ at. let same : k ≡ n = omega arith in differ (subst (λ m. variable_in (root_cell (nth_subtree p m)) ≡ Some x) same o.is)) (cases_lt k n)))
-    (variable_decided (variable_in (root_cell (nth_subtree p n))) x))
+    (λ differ. inr (λ k lt o. ⊎_elim (λ below. none k below o) (λ at. let same : k ≡ n = omega arith in differ (subst (λ m. variable_of (head_of (nth_subtree p m)) ≡ Some x) same o.is)) (cases_lt k n)))
+    (variable_decided (variable_of (head_of (nth_subtree p n))) x))
     (occurs_or_not p x n)
   where
     variable_decided : (o : Option ℕ) (x : ℕ) → (o ≡ Some x) ⊎ (o ≡ Some x → ⊥)

@@ -2,7 +2,7 @@
 use Rattle.std.proofs.Common.{◌≡◌, ℕ, zero, suc, ◌+◌, ◌-◌, ◌<◌, ◌≤◌, true, false, eq-eqb, Option, Some, None, refl, sym, ◌∙◌, ap, subst, arith, ⊎_elim}
 use Rattle.eq_base.specs.Tree.{Tree, node, empty, grow, head_of, arity_of, count, size, nth_subtree}
 use Rattle.eq_base.specs.Pattern.{PatternCell, fixed, variable, restricted, Substitution}
-use Rattle.eq_base.specs.Cells.{root_cell, variable_in, arity_in}
+use Rattle.eq_base.specs.Cells.{root_cell, arity_in}
 use Rattle.eq_base.specs.Meeting.{in_symbol_class}
 use Rattle.eq_base.specs.declared.head.Head as heads
 use Rattle.eq_base.specs.declared.head.Cell as cells
@@ -14,7 +14,7 @@ use Rattle.std.proofs.lemmas.Map.Views.{exact_unsigned_eq}
 use Rattle.std.proofs.lemmas.Bool.{cases_lt}
 use Rattle.eq_base.proofs.Trees.{end_within, nth_subtree-nth_subtree}
 use Rattle.regularity.specs.Arities.{HasArities, HaveArities}
-use Rattle.regularity.specs.Single.{OccursAt}
+use Rattle.regularity.specs.Occurrences.{variable_of, OccursAt}
 use Rattle.regularity.specs.Merge.{merge, merged, named, fill, CanMerge, IsPartOf}
 use Rattle.regularity.specs.Facing.{DoClash, IsSameHead}
 use Rattle.regularity.proofs.Facings.{HasVariable}
@@ -38,12 +38,12 @@ pub record IsFinding (left other : Pattern) (x at beside name : ℕ) : Type 0 wh
   pub within : at ≤ size left
   pub within' : beside ≤ size other
 
-pub fill-variable : (θ : Substitution (PatternCell heads.Head)) (p : Pattern) (x : ℕ) → variable_in (root_cell p) ≡ Some x → fill θ p ≡ θ x
+pub fill-variable : (θ : Substitution (PatternCell heads.Head)) (p : Pattern) (x : ℕ) → variable_of (head_of p) ≡ Some x → fill θ p ≡ θ x
 fill-variable θ (node (fixed h) ps) x e = cc
 fill-variable θ (node (variable y) ps) x e = let same : y ≡ x = cc in ap θ same
 fill-variable θ (node (restricted y class) ps) x e = let same : y ≡ x = cc in ap θ same
 
-pub variable_no_head : (p : Pattern) (x : ℕ) → variable_in (root_cell p) ≡ Some x → (h : heads.Head) → head_of p ≡ fixed h → ⊥
+pub variable_no_head : (p : Pattern) (x : ℕ) → variable_of (head_of p) ≡ Some x → (h : heads.Head) → head_of p ≡ fixed h → ⊥
 variable_no_head (node (fixed h) ps) x e g f = cc
 variable_no_head (node (variable y) ps) x e g f = cc
 variable_no_head (node (restricted y class) ps) x e g f = cc
@@ -95,7 +95,7 @@ no_head_size arity (node (fixed k) ps) a none = absurd (none k refl)
 no_head_size arity (node (variable x) ps) a none = rw a refl
 no_head_size arity (node (restricted x class) ps) a none = rw a refl
 
-named-variable : (n : ℕ) (p : Pattern) (x : ℕ) → variable_in (root_cell p) ≡ Some x → named n p ≡ node (variable n) empty
+named-variable : (n : ℕ) (p : Pattern) (x : ℕ) → variable_of (head_of p) ≡ Some x → named n p ≡ node (variable n) empty
 named-variable n (node (fixed h) ps) x e = cc
 named-variable n (node (variable y) ps) x e = refl
 named-variable n (node (restricted y class) ps) x e = refl
@@ -187,7 +187,7 @@ module _ (left other : Pattern) (x : ℕ) (can : CanMerge left other) where
     first_filled θ e = firsts_same _ _ _ _ _ _ (fill_passes θ left at lt) (merge_passes name left other at beside lt find_there) (is.filled θ e)
 
     -- the variable stands here
-    pub find_here : variable_in (root_cell s) ≡ Some x → IsPartOf left other x (record { at = beside; name = name })
+    pub find_here : variable_of (head_of s) ≡ Some x → IsPartOf left other x (record { at = beside; name = name })
     find_here own θ e = sym (fill-variable θ s x own) ∙ first_filled θ e ∙ merge-right name s u (variable_no_head s x own)
 
     -- or in the subtree here, beside a variable
@@ -197,11 +197,11 @@ module _ (left other : Pattern) (x : ℕ) (can : CanMerge left other) where
         let again : at + (k - at) ≡ k = omega arith in
         let inside : k - at < size s = omega arith in
         let part : nth_subtree left k ≡ nth_subtree s (k - at) = ap (nth_subtree left) (sym again) ∙ nth_subtree-nth_subtree left at (k - at) lt inside in
-        let occurs : OccursAt s (k - at) x = record { there = inside; is = ap (λ t. variable_in (root_cell t)) (sym part) ∙ o.is } in
+        let occurs : OccursAt s (k - at) x = record { there = inside; is = ap (λ t. variable_of (head_of t)) (sym part) ∙ o.is } in
         own_variable θ is.scanned.arity s own_have name own (k - at) x occurs ∙ sym (named-no_head (name + (k - at)) u none)
 
     -- both have the same head
-    pub find_down : IsSameHead (head_of s) (head_of u) → (variable_in (root_cell s) ≡ Some x → ⊥) → IsFinding left other x (at + 1) (beside + 1) (name + 1)
+    pub find_down : IsSameHead (head_of s) (head_of u) → (variable_of (head_of s) ≡ Some x → ⊥) → IsFinding left other x (at + 1) (beside + 1) (name + 1)
     find_down same not = record {
       scanned = scan_down left other Any at beside is.scanned lt find_there tt same;
       filled = λ θ e.
@@ -213,17 +213,17 @@ module _ (left other : Pattern) (x : ℕ) (can : CanMerge left other) where
       within' = omega (arith, find_there);
     }
       where
-        later_one : (k : ℕ) → OccursAt left k x → (variable_in (root_cell s) ≡ Some x → ⊥) → at + 1 ≤ k
+        later_one : (k : ℕ) → OccursAt left k x → (variable_of (head_of s) ≡ Some x → ⊥) → at + 1 ≤ k
         later_one k o not =
             let before = is.later k o in
-            ⊎_elim (λ past. omega arith) (λ here. absurd (not (let same : k ≡ at = omega arith in subst (λ m. variable_in (root_cell (nth_subtree left m)) ≡ Some x) same o.is))) (cases_lt at k)
+            ⊎_elim (λ past. omega arith) (λ here. absurd (not (let same : k ≡ at = omega arith in subst (λ m. variable_of (head_of (nth_subtree left m)) ≡ Some x) same o.is))) (cases_lt at k)
 
     -- another variable has nothing below it
-    pub find_no_variable : ((h : heads.Head) → head_of s ≡ fixed h → ⊥) → (variable_in (root_cell s) ≡ Some x → ⊥) → (k : ℕ) → at ≤ k → k < at + size s → OccursAt left k x → ⊥
+    pub find_no_variable : ((h : heads.Head) → head_of s ≡ fixed h → ⊥) → (variable_of (head_of s) ≡ Some x → ⊥) → (k : ℕ) → at ≤ k → k < at + size s → OccursAt left k x → ⊥
     find_no_variable none not k from below o =
         let one : size s ≡ 1 = no_head_size is.scanned.arity s own_have none in
         let same : k ≡ at = omega arith in
-        not (subst (λ m. variable_in (root_cell (nth_subtree left m)) ≡ Some x) same o.is)
+        not (subst (λ m. variable_of (head_of (nth_subtree left m)) ≡ Some x) same o.is)
 
     -- what comes next is behind both subtrees
     passed_filled : (n : ℕ) → size (merge s u) ≡ n → (θ : Substitution (PatternCell heads.Head)) → fill θ left ≡ merged left other → fill_from θ left (at + size s) ≡ merge_from (name + n) left other (at + size s) (beside + size u)

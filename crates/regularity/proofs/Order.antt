@@ -34,6 +34,10 @@ ordered_push (b ∷ bs) c o before = (all_push (λ d. Precedes b d) bs c o.0 (be
 pub lists_same : (P Q : Break → Type 0) (bs : List Break) → ((b : Break) → P b → Q b) → ((b : Break) → Q b → P b) → Lists P bs → Lists Q bs
 lists_same P Q bs to from l = record { only = λ b h. to b (l.only b h); all = λ b h. l.all b (from b h); ordered = l.ordered }
 
+-- the list of the breaks with a property is that of those with one that holds of the same breaks
+pub lists_either : (P Q : Break → Type 0) (bs : List Break) → ((b : Break) → P b ↔ Q b) → Lists P bs ↔ Lists Q bs
+lists_either P Q bs same = (lists_same P Q bs (λ b. (same b).0) (λ b. (same b).1), lists_same Q P bs (λ b. (same b).1) (λ b. (same b).0))
+
 lists_push : (P Q : Break → Type 0) (bs : List Break) (c : Break) → Lists P bs → ((b : Break) → P b → Precedes b c) → ((b : Break) → P b → Q b) → Q c → ((b : Break) → Q b → P b ⊎ (b ≡ c)) → Lists Q (bs ++ c ∷ [])
 lists_push P Q bs c l before to here from = record {
   only = λ b h. ⊎_elim (λ old. to b (l.only b old)) (λ new. subst Q (sym (contains_only b c new)) here) (Contains-append_cases bs (c ∷ []) b h);
@@ -93,7 +97,7 @@ module _ (P : Break → Type 0) (bs : List Break) where
 not_itself : (b : Break) → Precedes b b → ⊥
 not_itself b h = grind arith
 
-not_both : (b c : Break) → Precedes b c → Precedes c b → ⊥
+pub not_both : (b c : Break) → Precedes b c → Precedes c b → ⊥
 not_both b c h k = grind arith
 
 all_get : (P : Break → Type 0) (bs : List Break) (k : ℕ) (b : Break) → AllByRecursion P bs → slice_get bs k ≡ Some b → P b

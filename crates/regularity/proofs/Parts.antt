@@ -3,9 +3,8 @@ use Rattle.std.proofs.Common.{◌≡◌, ℕ, ◌+◌, ◌<◌, List, Some, ◌�
 use Rattle.std.specs.Prelude.{◌↔◌, slice_get}
 use Rattle.std.specs.List.{AllByRecursion}
 use Rattle.std.proofs.lemmas.Option.{slice_get_within, get_or_from_slice_get}
-use Rattle.eq_base.specs.Tree.{Tree, Forest, node, empty, grow, size, subtrees, all_subtrees, nth_subtree}
+use Rattle.eq_base.specs.Tree.{Tree, Forest, node, empty, grow, head_of, size, subtrees, all_subtrees, nth_subtree}
 use Rattle.eq_base.specs.Pattern.{PatternCell, fixed, variable, restricted, restrictions, all_restrictions}
-use Rattle.eq_base.specs.Cells.{root_cell, variable_in}
 use Rattle.eq_base.specs.Meeting.{in_symbol_class}
 use Rattle.eq_base.specs.declared.head.Head.{Head}
 use Rattle.eq_base.specs.declared.rules.Equation.{Equation}
@@ -13,7 +12,7 @@ use Rattle.eq_base.proofs.Lists.{all_front, all_back, all_both, all_at}
 use Rattle.eq_base.proofs.Trees.{length-subtrees, end_within, nth_subtree-nth_subtree}
 use Rattle.regularity.specs.Arities.{HasArities, HaveArities}
 use Rattle.regularity.specs.Common.{HaveCommon}
-use Rattle.regularity.specs.Single.{OccursAt, Repeats}
+use Rattle.regularity.specs.Occurrences.{variable_of, OccursAt, Repeats}
 use Rattle.regularity.specs.Shared.{HaveHeads, LeftSidesHaveHeads, HaveSharedInstance}
 use Rattle.regularity.specs.Violations.{IsListedSingle}
 use Rattle.regularity.specs.WellFormed.{AreWellFormed}
@@ -26,7 +25,7 @@ module _ (p : Tree (PatternCell Head)) (k : ℕ) (lt : k < size p) where
   occurs_there : (at x : ℕ) → OccursAt (nth_subtree p k) at x → OccursAt p (k + at) x
   occurs_there at x o = record {
     there = omega (arith, o.there, end_within p k lt);
-    is = ap (λ s. variable_in (root_cell s)) (nth_subtree-nth_subtree p k at lt o.there) ∙ o.is;
+    is = ap (λ s. variable_of (head_of s)) (nth_subtree-nth_subtree p k at lt o.there) ∙ o.is;
   }
 
   repeats_there : (at : ℕ) → Repeats (nth_subtree p k) at → Repeats p (k + at)

@@ -1,7 +1,7 @@
 -- Right sides read under the merge, side by side with parts of it and with one another.
 use Rattle.std.proofs.Common.{◌≡◌, ℕ, ◌+◌, ◌<◌, ◌≤◌, None, Some, refl, sym, ◌∙◌, ap, arith}
 use Rattle.std.specs.Prelude.{◌↔◌}
-use Rattle.eq_base.specs.Tree.{Tree, empty, arity_of, count, size, nth_subtree}
+use Rattle.eq_base.specs.Tree.{Tree, empty, head_of, arity_of, count, size, nth_subtree}
 use Rattle.eq_base.specs.Pattern.{PatternCell, fixed, Substitution}
 use Rattle.eq_base.specs.Cells.{root_cell, variable_in, arity_in}
 use Rattle.eq_base.specs.declared.head.Head as heads
@@ -9,6 +9,7 @@ use Rattle.eq_base.specs.declared.head.Cell as cells
 use Rattle.eq_base.specs.declared.head.Cell.TheVariants as cell
 use Rattle.eq_base.proofs.Scans.{forest_from, forest_from-start, forest_from-end}
 use Rattle.eq_base.proofs.Trees.{end_within, nth_subtree-nth_subtree}
+use Rattle.regularity.specs.Occurrences.{variable_of}
 use Rattle.regularity.specs.Merge.{merged, named, fill, named_cell, CanMerge}
 use Rattle.regularity.proofs.Merging.{OpensTo, fill_from, fill_passes, fill_opens, named_from, named_passes, named_opens, open_both, pass_both, heads_same, firsts_same, only_tree, pair_same, left_there, some_left, count_passed, count_opened, no_trees}
 use Rattle.regularity.proofs.Finding.{fill-variable, head_of_root}
@@ -86,7 +87,7 @@ module _ (left other s u : Pattern) (n : ℕ) where
             }
 
       -- at a variable
-      module _ (x : ℕ) (own : variable_in (root_cell (nth_subtree s i)) ≡ Some x) (part : Pattern) (value : (θ : Patterns) → fill θ left ≡ merged left other → θ x ≡ part) where
+      module _ (x : ℕ) (own : variable_of (head_of (nth_subtree s i)) ≡ Some x) (part : Pattern) (value : (θ : Patterns) → fill θ left ≡ merged left other → θ x ≡ part) where
         pub reads_other_part : (named (n + k) (nth_subtree u k) ≡ part → ⊥) → (θ : Patterns) → fill θ left ≡ merged left other → fill θ s ≡ named n u → ⊥
         reads_other_part differ θ e same =
             let first = firsts_same _ _ _ _ _ _ (fill_passes θ s i lt) (named_passes n u k lt') ((is.same θ e).0 same) in
@@ -224,9 +225,9 @@ module _ (left other right : Pattern) (at : ℕ) (there : at < size right) (part
           reads_head left other part merge_part n i k is lt inside h a d root (d_is ∙ ap root_cell left_part) many (d_arity ∙ ap arity_of left_part)
           (ap (named_cell 0) (sym (is_head c none).2) ∙ e)
 
-    module _ (x : ℕ) (own : variable_in (root_cell (nth_subtree right (at + i))) ≡ Some x) (value : Pattern) (found : (θ : Patterns) → fill θ left ≡ merged left other → θ x ≡ value) where
-      own_part : variable_in (root_cell (nth_subtree part i)) ≡ Some x
-      own_part = ap (λ t. variable_in (root_cell t)) (sym right_part) ∙ own
+    module _ (x : ℕ) (own : variable_of (head_of (nth_subtree right (at + i))) ≡ Some x) (value : Pattern) (found : (θ : Patterns) → fill θ left ≡ merged left other → θ x ≡ value) where
+      own_part : variable_of (head_of (nth_subtree part i)) ≡ Some x
+      own_part = ap (λ t. variable_of (head_of t)) (sym right_part) ∙ own
 
       pub part_differs : (named (n + k) (nth_subtree left (part_at + k)) ≡ value → ⊥) → (θ : Patterns) → fill θ left ≡ merged left other → fill θ part ≡ named n merge_part → ⊥
       part_differs differ = reads_other_part left other part merge_part n i k is lt inside x own_part value found (λ e. differ (ap (named (n + k)) left_part ∙ e))

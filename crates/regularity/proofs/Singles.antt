@@ -6,11 +6,14 @@ use Rattle.std.proofs.lemmas.List.{get_or_append_left, get_or-append-add}
 use Rattle.std.proofs.lemmas.Option.{slice_get_within, get_or_from_slice_get}
 use Rattle.eq_base.specs.Tree.{Tree, size}
 use Rattle.eq_base.specs.Pattern.{PatternCell}
+use Rattle.eq_base.specs.Rules.{right_side}
 use Rattle.eq_base.specs.declared.head.Head.{Head}
 use Rattle.eq_base.specs.declared.rules.Right.{Right}
 use Rattle.eq_base.specs.declared.rules.Right.TheVariants as rights
 use Rattle.eq_base.specs.declared.rules.Equation.{Equation}
-use Rattle.regularity.specs.Single.{Repeats, IsUnbound, HasUnbound, IsSingle}
+use Rattle.regularity.specs.Occurrences.{Repeats, IsUnbound}
+use Rattle.regularity.specs.Restrictions.{HasUnbound}
+use Rattle.regularity.specs.Single.{IsSingle}
 use Rattle.regularity.specs.WellFormed.{right_size, IsWellFormed, AreWellFormed}
 use Rattle.regularity.specs.Violations.{IsRepeated, IsUnboundBreak, IsOfOne}
 use Rattle.regularity.specs.Listing.{Precedes, Lists, break_at, ListsBefore}
@@ -18,7 +21,7 @@ use Rattle.regularity.specs.declared.breaks.Break.{Break}
 use Rattle.regularity.proofs.Order.{lists_same, lists_moved, lists_found, lists_missed}
 
 -- an operation has no variables
-pub operation_bound : (left : Tree (PatternCell Head)) (right : Right) → ((p : Tree (PatternCell Head)) → right ≡ rights.Tree p → ⊥) → (place : ℕ) → HasUnbound left right place → ⊥
+pub operation_bound : (left : Tree (PatternCell Head)) (right : Right) → ((p : Tree (PatternCell Head)) → right ≡ rights.Tree p → ⊥) → (place : ℕ) → HasUnbound left (right_side right) place → ⊥
 operation_bound left (rights.Tree p) other place u = other p refl
 operation_bound left (rights.Schema op) other place u = u
 
@@ -74,14 +77,14 @@ module _ (es : List Equation) where
       λ unbound. inr (record { restriction = refl; equation = e; listed = listed; unbound = rw is unbound; second = refl }),
       λ h.
           let u = unbound_only (break_at 2 first place first) h refl in
-          let here : HasUnbound e.left e.right place = subst (λ (d : Equation). HasUnbound d.left d.right place) (same_equation first u.equation refl u.listed) u.unbound in
-          subst (λ r. HasUnbound e.left r place) is here,
+          let here : HasUnbound e.left (right_side e.right) place = subst (λ (d : Equation). HasUnbound d.left (right_side d.right) place) (same_equation first u.equation refl u.listed) u.unbound in
+          subst (λ r. HasUnbound e.left (right_side r) place) is here,
     )
 
-    unbound_at : (b : Break) → IsOfOne es b → b.restriction ≡ 2 → b.first ≡ first → HasUnbound e.left e.right b.place
+    unbound_at : (b : Break) → IsOfOne es b → b.restriction ≡ 2 → b.first ≡ first → HasUnbound e.left (right_side e.right) b.place
     unbound_at b h is here =
         let u = unbound_only b h is in
-        subst (λ (d : Equation). HasUnbound d.left d.right b.place) (same_equation b.first u.equation here u.listed) u.unbound
+        subst (λ (d : Equation). HasUnbound d.left (right_side d.right) b.place) (same_equation b.first u.equation here u.listed) u.unbound
 
     well_formed : AreWellFormed es → IsWellFormed e
     well_formed w = subst IsWellFormed (get_or_from_slice_get es first e e listed) (w.each first e (slice_get_within es first e listed))
@@ -113,7 +116,7 @@ module _ (es : List Equation) where
 
       pub unbound_done : (right : Tree (PatternCell Head)) → e.right ≡ rights.Tree right → (end : ℕ) → size right ≤ end → ListsBefore (IsOfOne es) 2 first end first found → ListsBefore (IsOfOne es) 2 (first + 1) 0 (first + 1) found
       unbound_done right right_is end past l =
-          let within = λ (b : Break) (h : IsOfOne es b) (is : b.restriction ≡ 2) (here : b.first ≡ first). let u : IsUnbound e.left right b.place = subst (λ r. HasUnbound e.left r b.place) right_is (unbound_at b h is here) in let t : b.place < end = omega (arith, u.here.there) in t in
+          let within = λ (b : Break) (h : IsOfOne es b) (is : b.restriction ≡ 2) (here : b.first ≡ first). let u : IsUnbound e.left right b.place = subst (λ r. HasUnbound e.left (right_side r) b.place) right_is (unbound_at b h is here) in let t : b.place < end = omega (arith, u.here.there) in t in
           lists_moved (IsOfOne es) 2 first end first 2 (first + 1) 0 (first + 1) found (next_equation 2 end within) l
 
       pub operation_done : ((right : Tree (PatternCell Head)) → e.right ≡ rights.Tree right → ⊥) → ListsBefore (IsOfOne es) 2 first 0 first found → ListsBefore (IsOfOne es) 2 (first + 1) 0 (first + 1) found

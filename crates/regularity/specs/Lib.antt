@@ -1,7 +1,9 @@
 pub mod Arities
 pub mod Facing
 pub mod Common
+pub mod Occurrences
 pub mod Merge
+pub mod Restrictions
 pub mod Single
 pub mod Violations
 pub mod Listing

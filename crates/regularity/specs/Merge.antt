@@ -1,4 +1,4 @@
--- Two patterns merged, and right sides read under the merge.
+-- Two patterns merged, and patterns read under the merge.
 use Rattle.std.specs.Prelude.{◌≡◌, ◌↔◌, ℕ, suc, ◌+◌, ◌≤◌, Bool, IsTrue}
 use Rattle.eq_base.specs.Tree.{Tree, Forest, node, empty, grow, size, map_heads, nth_subtree}
 use Rattle.eq_base.specs.Pattern.{PatternCell, fixed, variable, restricted, Substitution, apply}
@@ -6,12 +6,9 @@ use Rattle.eq_base.specs.Meeting.{in_symbol_class}
 use Rattle.eq_base.specs.declared.head.Head.{Head}
 use Rattle.eq_base.specs.declared.head.Cell as cells
 use Rattle.eq_base.specs.declared.head.Cell.TheVariants as cell
-use Rattle.eq_base.specs.declared.rules.Right.{Right}
-use Rattle.eq_base.specs.declared.rules.Right.TheVariants as rights
-use Rattle.eq_base.specs.declared.rules.Equation.{Equation}
 use Rattle.regularity.specs.Arities.{AgreeOnArities}
 use Rattle.regularity.specs.Common.{HaveCommon}
-use Rattle.regularity.specs.Single.{OccursAt}
+use Rattle.regularity.specs.Occurrences.{OccursAt}
 use Rattle.regularity.specs.declared.merge.MergedPart.{MergedPart}
 
 module _ {H : Type 0} where
@@ -60,16 +57,6 @@ module _ {H : Type 0} where
     pub one_merged : fill of_one p ≡ merged p r
     pub other_merged : fill of_other r ≡ merged r p
     pub same : fill of_one s ≡ fill of_other t
-
--- right sides are the same, read under the merge of the left sides; that of an operation is the same as no other
-abbrev pub IsSameRight : Tree (PatternCell Head) → Tree (PatternCell Head) → Right → Right → Type 0
-IsSameRight p r (rights.Tree s) (rights.Tree t) = AreSameUnderMerge p r s t
-IsSameRight p r one other = ⊥
-
--- the left sides have a common instance, and the right sides are not the same under the merge
-pub record AreAmbiguous (one other : Equation) : Type 0 where
-  pub common : HaveCommon in_symbol_class one.left other.left
-  pub differ : IsSameRight one.left other.left one.right other.right → ⊥
 
 -- ---- parts of the merge, as they are found
 

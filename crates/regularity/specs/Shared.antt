@@ -7,7 +7,7 @@ use Rattle.eq_base.specs.Meeting.{in_symbol_class}
 use Rattle.eq_base.specs.declared.head.Head.{Head}
 use Rattle.eq_base.specs.declared.rules.Equation.{Equation}
 use Rattle.regularity.specs.Arities.{HasArities}
-use Rattle.regularity.specs.Single.{Repeats}
+use Rattle.regularity.specs.Occurrences.{Repeats}
 
 -- each class of the pattern has a head
 abbrev pub HaveHeads : Tree (PatternCell Head) → Type 0

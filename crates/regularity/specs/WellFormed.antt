@@ -3,10 +3,12 @@ use Rattle.std.specs.Prelude.{◌≡◌, ℕ, ◌<◌, ◌≤◌, List, length, 
 use Rattle.eq_base.specs.Tree.{Tree, head_of, size}
 use Rattle.eq_base.specs.Pattern.{PatternCell, fixed}
 use Rattle.eq_base.specs.Meeting.{in_symbol_class}
+use Rattle.eq_base.specs.Operations.{application}
 use Rattle.eq_base.specs.declared.head.Head as heads
 use Rattle.eq_base.specs.declared.head.Head.TheVariants.{Symbol, Numeral, Atom, Text}
 use Rattle.eq_base.specs.declared.head.Cell as cells
 use Rattle.eq_base.specs.declared.head.Cell.TheVariants.{Head, Var, Class}
+use Rattle.eq_base.specs.declared.rules.Op.{Op}
 use Rattle.eq_base.specs.declared.rules.Right.{Right}
 use Rattle.eq_base.specs.declared.rules.Right.TheVariants as rights
 use Rattle.eq_base.specs.declared.rules.Equation.{Equation}
@@ -21,13 +23,20 @@ right_size (rights.Schema op) = 0
 abbrev pub HasSymbolRoot : Tree (PatternCell heads.Head) → Type 0
 HasSymbolRoot p = (s : ℕ) × (head_of p ≡ fixed (Symbol s))
 
--- the equation has few enough cells, and a symbol at the root of its left side
+-- where the right side is an operation, the left side is its symbol over its operands
+abbrev pub IsApplicationOf : Equation → Type 0
+IsApplicationOf e = (op : Op) → e.right ≡ rights.Schema op → (f : heads.Head) × (e.left ≡ application op f)
+
+-- the equation has few enough cells and a symbol at the root of its left side, which is the application of
+-- the operation on the right side, if there is one
 pub record IsWellFormed (e : Equation) : Type 0 where
   pub left_size : size e.left ≤ 255
   pub right_size : right_size e.right ≤ 65535
   pub root : HasSymbolRoot e.left
+  pub applied : IsApplicationOf e
 
--- the equations are few enough, each is well formed, and their left sides agree on the number of arguments of each head, which is none for the heads of classes
+-- the equations are few enough, each is well formed, and their left sides agree on the number of arguments of
+-- each head, which is none for the heads of classes
 pub record AreWellFormed (equations : List Equation) : Type 0 where
   pub few : length equations ≤ 2048
   pub each : All IsWellFormed equations
@@ -43,7 +52,8 @@ pub record IsPlaceOf (equations : List Equation) (number place : ℕ) : Type 0 w
 
 -- ---- by a table of symbols
 
--- the number of arguments that a table gives a head: each symbol its entry, and none to symbols past the table and to other heads
+-- the number of arguments that a table gives a head: each symbol its entry, and none to symbols past the
+-- table and to other heads
 abbrev pub arity_by : List ℕ → heads.Head → ℕ
 arity_by table (Symbol s) = slice_index_or table s 0
 arity_by table (Numeral i) = 0
@@ -52,7 +62,8 @@ arity_by table (Text t) = 0
 
 -- the heads of classes have no arguments
 abbrev pub GivesConstantsNone : List ℕ → Type 0
-GivesConstantsNone table = (class : ℕ) (h : heads.Head) → IsTrue (in_symbol_class class h) → arity_by table h ≡ 0
+GivesConstantsNone table = (class : ℕ) (h : heads.Head) → IsTrue (in_symbol_class class h)
+    → arity_by table h ≡ 0
 
 -- a head in the cell has as many arguments as the table says
 abbrev pub HasArityBy : List ℕ → cells.Cell → Type 0

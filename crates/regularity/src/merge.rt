@@ -3,10 +3,13 @@
 ghost use Rattle.std.specs.Prelude.{◌≡◌, ℕ, ◌<◌, ◌≤◌, ◌↔◌, IsTrue};
 ghost use Rattle.eq_base.specs.Tree.{size, nth_subtree};
 ghost use Rattle.eq_base.specs.Meeting.{in_symbol_class};
+ghost use Rattle.eq_base.specs.Rules.{right_side};
 ghost use Rattle.regularity.specs.Arities.{AgreeOnArities};
 ghost use Rattle.regularity.specs.Common.{HaveCommon};
-ghost use Rattle.regularity.specs.Merge.{IsSameRight, CanMerge, IsPartOf, IsOverLeft, ReadsAs, ReadsSame, part_of_merge, named_cell};
-ghost use Rattle.regularity.specs.Single.{OccursAt, IsSingle};
+ghost use Rattle.regularity.specs.Merge.{CanMerge, IsPartOf, IsOverLeft, ReadsAs, ReadsSame, part_of_merge, named_cell};
+ghost use Rattle.regularity.specs.Occurrences.{OccursAt};
+ghost use Rattle.regularity.specs.Restrictions.{IsSameRight};
+ghost use Rattle.regularity.specs.Single.{IsSingle};
 ghost use Rattle.regularity.specs.WellFormed.{IsWellFormed};
 
 use crate::facing::{Facing, facing_of};
@@ -27,7 +30,7 @@ pub fn is_same_right(one: &Equation, other: &Equation) -> bool
     requires common { HaveCommon in_symbol_class one.now.left other.now.left }
     requires one { IsWellFormed one.now × IsSingle one.now }
     requires other { IsWellFormed other.now × IsSingle other.now }
-    ensures { IsTrue result ↔ IsSameRight one.now.left other.now.left one.now.right other.now.right }
+    ensures { IsTrue result ↔ IsSameRight one.now.left other.now.left (right_side one.now.right) (right_side other.now.right) }
 {
     let (Right::Tree(right), Right::Tree(other_right)) = (&one.right, &other.right) else {
         return false;

@@ -2,9 +2,8 @@
 ghost use Rattle.std.specs.Prelude.{◌≡◌, ◌+◌, ◌<◌, ◌↔◌, IsTrue, OnOk, IfOk, length, false, slice_index_or};
 ghost use Rattle.eq_base.specs.Meeting.{CellIsTested};
 ghost use Rattle.regularity.specs.Arities.{AgreeOnArities};
-ghost use Rattle.regularity.specs.Merge.{AreAmbiguous};
 ghost use Rattle.regularity.specs.Single.{IsSingle, TellSingles};
-ghost use Rattle.regularity.specs.Violations.{IsOfTwo};
+ghost use Rattle.regularity.specs.Violations.{AreAmbiguous, IsOfTwo};
 ghost use Rattle.regularity.specs.Listing.{Lists, ListsBefore};
 ghost use Rattle.regularity.specs.WellFormed.{IsWellFormed, AreWellFormed, IsPlaceOf};
 

@@ -1,7 +1,10 @@
 // Equations one by one: RE1 and RE2.
 ghost use Rattle.std.specs.Prelude.{◌≡◌, ℕ, ◌+◌, ◌<◌, ◌≤◌, ◌↔◌, IsTrue, OnOk, IfOk, length};
 ghost use Rattle.eq_base.specs.Tree.{size};
-ghost use Rattle.regularity.specs.Single.{OccursBefore, Repeats, IsUnbound, HasUnbound, IsSingle, TellSingles};
+ghost use Rattle.eq_base.specs.Rules.{right_side};
+ghost use Rattle.regularity.specs.Occurrences.{OccursBefore, Repeats, IsUnbound};
+ghost use Rattle.regularity.specs.Restrictions.{HasUnbound};
+ghost use Rattle.regularity.specs.Single.{IsSingle, TellSingles};
 ghost use Rattle.regularity.specs.Violations.{IsOfOne};
 ghost use Rattle.regularity.specs.Listing.{Lists, ListsBefore};
 ghost use Rattle.regularity.specs.WellFormed.{AreWellFormed};
@@ -107,7 +110,7 @@ fn is_linear(left: &Pattern) -> bool
 
 // Whether each variable of the right side occurs on the left side.
 fn is_bound(equation: &Equation) -> bool
-    ensures { IsTrue result ↔ ((at : ℕ) → HasUnbound equation.now.left equation.now.right at → ⊥) }
+    ensures { IsTrue result ↔ ((at : ℕ) → HasUnbound equation.now.left (right_side equation.now.right) at → ⊥) }
 {
     let Right::Tree(right) = &equation.right else {
         return true;

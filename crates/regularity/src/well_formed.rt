@@ -1,8 +1,9 @@
 // Whether equations are well formed, by a table of the numbers of arguments of symbols.
 ghost use Rattle.std.specs.Prelude.{◌≡◌, ◌↔◌, IsTrue};
 ghost use Rattle.regularity.specs.Arities.{HasArities};
-ghost use Rattle.regularity.specs.WellFormed.{right_size, HasSymbolRoot, AreWellFormed, arity_by, GivesConstantsNone, HasArityBy, IsWellFormedBy, AreWellFormedBy};
+ghost use Rattle.regularity.specs.WellFormed.{right_size, HasSymbolRoot, IsApplicationOf, AreWellFormed, arity_by, GivesConstantsNone, HasArityBy, IsWellFormedBy, AreWellFormedBy};
 
+use builtin::is_schema_left;
 use eq_base::{Cell, Equation, Head, Pattern, Right, Rules};
 
 // The most equations, and the most cells of their sides.
@@ -12,10 +13,10 @@ const MOST_LEFT_CELLS: usize = 255;
 
 const MOST_RIGHT_CELLS: usize = 65535;
 
-/// Whether equations are few and small enough, have a symbol at the root of each left side, and give each
-/// head of a left side the number of arguments that a table has for it, by the numbers of symbols. A
-/// symbol past the table has none, as the truth values have to. It takes no memory, and looks at each
-/// cell of a left side once.
+/// Whether equations are few and small enough, have a symbol at the root of each left side, give an
+/// operation only to its application, and give each head of a left side the number of arguments that a
+/// table has for it, by the numbers of symbols. A symbol past the table has none, as the truth values
+/// have to. It takes no memory, and time linear in the left sides.
 pub fn are_well_formed(rules: &Rules, arities: &[u8]) -> bool
     ensures exact { IsTrue result ↔ AreWellFormedBy arities.now rules.now }
     ensures well_formed { IsTrue result → AreWellFormed rules.now }
@@ -38,6 +39,7 @@ fn is_well_formed(equation: &Equation, arities: &[u8]) -> bool
     has_symbol_root(&equation.left)
         && equation.left.len() <= MOST_LEFT_CELLS
         && right_len(&equation.right) <= MOST_RIGHT_CELLS
+        && is_applied(equation)
         && has_arities(&equation.left, arities)
 }
 
@@ -46,6 +48,16 @@ fn has_symbol_root(left: &Pattern) -> bool
     ensures { IsTrue result ↔ HasSymbolRoot left.now }
 {
     matches!(left.cell(0), Cell::Head(Head::Symbol(_), _))
+}
+
+// Whether the left side is the application of the operation on the right, if there is one.
+fn is_applied(equation: &Equation) -> bool
+    ensures { IsTrue result ↔ IsApplicationOf equation.now }
+{
+    match &equation.right {
+        Right::Tree(_) => true,
+        Right::Schema(op) => is_schema_left(*op, &equation.left),
+    }
 }
 
 // How many cells a right side has; an operation has none.

@@ -1,3 +1,4 @@
 pub mod Agreeing
 pub mod Found
 pub mod Sequence
+pub mod Alike

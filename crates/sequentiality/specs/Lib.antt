@@ -1,3 +1,4 @@
 pub mod Comparing
+pub mod Restrictions
 pub mod Violations
 pub mod Regular

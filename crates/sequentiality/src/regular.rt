@@ -51,6 +51,7 @@ impl Regular {
     pub fn admit(alloc: Global, rules: Rules) -> Result<Regular, AdmitError>
         requires { AreWellFormed rules }
         ensures ok { IfOk result (λ regular. regular ≡ rules) }
+        ensures regular { IfOk result AreRegular }
         ensures err { IfErr result (IsRefused rules) }
     {
         let Ok(found) = violations(alloc, &rules) else {

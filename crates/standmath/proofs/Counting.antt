@@ -5,8 +5,9 @@ use Rattle.std.proofs.lemmas.List.{append-nil, map-append, reverse-reverse, reve
 use Rattle.std.proofs.lemmas.Option.{get_or_from_slice_get, slice_get_within}
 use Rattle.std.proofs.Math.Seq.{get_or-append_seam}
 use Rattle.term_lex.specs.declared.token.Token.{Token}
-use Rattle.standmath.specs.declared.mentions.Mention.{Mention}
-use Rattle.standmath.specs.Mentions.{met_of, met_head, pair_of, increased, counted, without_first}
+use Rattle.written_terms.specs.declared.mention.Mention.{Mention}
+use Rattle.written_terms.specs.Mentions.{pair_of}
+use Rattle.standmath.specs.Mentions.{met_of, met_head, increased, counted, without_first}
 
 -- the last open head is the innermost
 last_read_as : (rs ns : List ℕ) (n : ℕ) → reverse ns ≡ rs → slice_get ns (length ns - 1) ≡ Some n → (rest : List ℕ) × (reverse ns ≡ n ∷ rest)

@@ -7,8 +7,8 @@ use Rattle.term_lex.specs.declared.token.TokenKind.{TokenKind}
 use Rattle.term_lex.specs.declared.token.TokenKind.TheVariants.{Name, Numeral, Text, CloseRound}
 use Rattle.term_lex.specs.Lexemes.{Lexeme}
 use Rattle.standmath.specs.Terms.{Terminal, Word, Literal, Sign, Written, Others, Constant, Value, Empty, Call, NoMore, More, spelling, behind_commas, terminal_of, terminal_of_kind, IsTerm}
-use Rattle.standmath.specs.Meaning.{outline, outlines}
-use Rattle.standmath.specs.Mentions.{IsLiteralKind, IsHeadToken}
+use Rattle.standmath.specs.Notation.{outline, outlines}
+use Rattle.written_terms.specs.Mentions.{IsLiteralKind, IsHeadToken}
 
 -- a lexeme with so many arguments is a name, or a literal without any
 abbrev pub IsHead : Lexeme × ℕ → Type 0
@@ -40,7 +40,7 @@ says s (y, e) = subst Says (sym e) (says_kind y.token.kind y refl)
 mutual
   heads_of : (t : Written) → AllByRecursion IsTerminal (spelling t) → AllByRecursion IsHead (cells (outline t))
   heads_of (Constant x) (word, rest) = (inl (says (Word x) word), tt)
-  heads_of (Value x) (literal, rest) = (inr (says (Literal x) literal, refl), tt)
+  heads_of (Value x) (literal, rest) = (inr (inl (says (Literal x) literal, refl)), tt)
   heads_of (Empty x) (word, rest) = (inl (says (Word x) word), tt)
   heads_of (Call x first others) (word, (sign, rest)) =
       let close = Sign CloseRound ∷ [] in

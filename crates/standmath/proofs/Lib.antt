@@ -5,11 +5,6 @@ pub mod Counting
 pub mod Outlines
 mod HeadTokens
 pub mod Reached
-pub mod Answering
 pub mod Prints
-pub mod Printables
-pub mod Keeping
-pub mod Meanings
 pub mod OneReading
-pub mod Readables
 pub mod RoundTrip

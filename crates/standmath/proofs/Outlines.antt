@@ -7,7 +7,7 @@ use Rattle.term_lex.specs.declared.token.TokenKind.{TokenKind}
 use Rattle.term_lex.specs.declared.token.TokenKind.TheVariants.{Name, Numeral, Text, OpenRound, CloseRound}
 use Rattle.term_lex.specs.Lexemes.{Lexeme, lexeme}
 use Rattle.standmath.specs.Terms.{Terminal, Word, Literal, Sign, Written, Others, Constant, Value, Empty, Call, NoMore, More, spelling, behind_commas, terminal_of_kind}
-use Rattle.standmath.specs.Meaning.{outline, outlines}
+use Rattle.standmath.specs.Notation.{outline, outlines}
 use Rattle.standmath.specs.Mentions.{Met, increased, counted, met_head, met_sign, met_kind}
 
 -- what has been met with one more terminal, and with a list of them

@@ -19,12 +19,13 @@ use Rattle.standmath.specs.declared.place.Place.{Place}
 use Rattle.standmath.specs.declared.place.Place.TheVariants.{Term, FirstArgument, AfterName, AfterTerm}
 use Rattle.standmath.specs.Terms.{Constant, NoMore, spelling, terminal_of, terminal_of_kind, IsSomeTerm}
 use Rattle.standmath.specs.Steps.{step_of, ends_term}
-use Rattle.standmath.specs.Mentions.{Met, increased, counted, met_head, met_kind, is_closed, without_first, IsMention, pair_of, seen, Mentioned}
-use Rattle.standmath.specs.declared.mentions.Mention.{Mention}
+use Rattle.written_terms.specs.Mentions.{IsMention, pair_of, seen}
+use Rattle.standmath.specs.Mentions.{Met, increased, counted, met_head, met_kind, is_closed, without_first, Mentioned}
+use Rattle.written_terms.specs.declared.mention.Mention.{Mention}
 use Rattle.standmath.proofs.Continuations.{Closes, Begins, Completes}
 use Rattle.standmath.proofs.Steps.{is_nested, depth_after, StepIs, step_law, whole_completes, inside_completes, unfinished_completes}
 use Rattle.eq_base.specs.Tree.{cells}
-use Rattle.standmath.specs.Meaning.{outline}
+use Rattle.standmath.specs.Notation.{outline}
 use Rattle.standmath.proofs.HeadTokens.{IsHead, heads_of_term}
 use Rattle.standmath.proofs.Outlines.{met_all, met_all-append, met_lexeme, nothing, met_term, with_bytes, bytes_of, kind-bytes}
 

@@ -1,11 +1,9 @@
 pub mod Terms
-pub mod Meaning
+pub mod Notation
 pub mod Reading
 pub mod Refusing
-pub mod Answering
 pub mod Steps
 pub mod Mentions
 pub mod Printing
 pub mod Readable
 pub mod Writing
-pub mod Cells

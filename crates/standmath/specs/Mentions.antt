@@ -1,14 +1,12 @@
 -- The names and literals of a term as they are met from left to right, each with its arguments so far.
-use Rattle.std.specs.Prelude.{◌≡◌, ℕ, zero, suc, ◌-◌, ◌<◌, ◌≤◌, Bool, true, false, List, [], ◌∷◌, ◌++◌, length, map, reverse, All, ◌⊎◌}
-use Rattle.eq_base.specs.Tree.{cells}
+use Rattle.std.specs.Prelude.{ℕ, zero, suc, ◌-◌, ◌<◌, ◌≤◌, Bool, true, false, List, [], ◌∷◌, ◌++◌, length, map, reverse, All}
 use Rattle.term_lex.specs.declared.token.Token.{Token}
 use Rattle.term_lex.specs.declared.token.TokenKind.{TokenKind}
 use Rattle.term_lex.specs.declared.token.TokenKind.TheVariants.{Name, Numeral, Text, OpenRound, CloseRound}
-use Rattle.term_lex.specs.Lexemes.{Lexeme, lexeme, Reads}
-use Rattle.term_lex.specs.Values.{IsTokenOf}
-use Rattle.standmath.specs.Terms.{Written, IsTerm, IsSomeTerm}
-use Rattle.standmath.specs.Meaning.{outline}
-use Rattle.standmath.specs.declared.mentions.Mention.{Mention}
+use Rattle.written_terms.specs.Mentions.{pair_of}
+use Rattle.written_terms.specs.Mentions as written
+use Rattle.standmath.specs.Notation.{standmath}
+use Rattle.written_terms.specs.declared.mention.Mention.{Mention}
 
 -- the heads met so far, and the numbers of those whose brackets are open, the innermost first
 pub record Met (A : Type 0) : Type 0 where
@@ -54,10 +52,6 @@ abbrev pub is_closed : List ℕ → Bool
 is_closed [] = true
 is_closed (n ∷ ns) = false
 
--- a mention as a pair
-abbrev pub pair_of : Mention → Token × ℕ
-pair_of m = (m.token, m.args)
-
 -- what the fields of a `Mentions` stand for
 abbrev pub met_of : List Mention → List ℕ → Met Token
 met_of mentions opened = record { heads = map pair_of mentions; open_heads = reverse opened }
@@ -67,28 +61,6 @@ pub record IsSound (mentions : List Mention) (opened : List ℕ) : Type 0 where
   pub inside : All (λ number. number < length mentions) opened
   pub few : All (λ mention. mention.args ≤ length mentions) mentions
 
--- the lexeme of a mention, with its number of arguments
-abbrev pub seen : List ℕ → Mention → Lexeme × ℕ
-seen text m = (lexeme text m.token, m.args)
-
--- a numeral or a string
-abbrev pub IsLiteralKind : TokenKind → Type 0
-IsLiteralKind kind = (kind ≡ Numeral) ⊎ (kind ≡ Text)
-
--- a name, or a literal, which has no arguments
-abbrev pub IsHeadToken : Token → ℕ → Type 0
-IsHeadToken t args = (t.kind ≡ Name) ⊎ (IsLiteralKind t.kind × (args ≡ 0))
-
--- a name or a literal that stands in the text
-pub record IsMention (text : List ℕ) (m : Mention) : Type 0 where
-  pub stands : IsTokenOf text m.token
-  pub head : IsHeadToken m.token m.args
-
 -- these are the names and literals of the term that is read from `at` to `end`, each with its number of arguments
-pub record Mentioned (text : List ℕ) (at : ℕ) (mentions : List Mention) (end : ℕ) : Type 0 where
-  pub lexemes : List Lexeme
-  pub written : Written
-  pub reads : Reads IsSomeTerm text at lexemes end
-  pub spelled : IsTerm written lexemes
-  pub outlined : map (seen text) mentions ≡ cells (outline written)
-  pub inside : All (λ m. IsMention text m) mentions
+abbrev pub Mentioned : List ℕ → ℕ → List Mention → ℕ → Type 0
+Mentioned text at mentions end = written.Mentioned standmath text at mentions end

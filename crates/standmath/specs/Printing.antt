@@ -1,47 +1,26 @@
 -- The print of a term.
-use Rattle.std.specs.Prelude.{ℕ, ◌<◌, List, [], ◌++◌, length, codes, slice_index_or}
-use Rattle.std.specs.Fmt.{signed_decimal}
-use Rattle.eq_base.specs.Tree.{Tree, Forest, node, empty, grow, AllHeads}
-use Rattle.eq_base.specs.declared.head.Head.{Head}
-use Rattle.eq_base.specs.declared.head.Head.TheVariants.{Symbol, Numeral, Atom, Text}
-use Rattle.term_lex.specs.Strings.{spelled}
-use Rattle.symbol_table.specs.Table.{Table, symbols_of, IsLive}
+use Rattle.std.specs.Prelude.{ℕ, List, [], ◌++◌, codes}
+use Rattle.eq_base.specs.Tree.{Tree, Forest, node, empty, grow}
+use Rattle.eq_base.specs.ReadHead.{ReadHead}
+use Rattle.symbol_table.specs.Table.{Table}
+use Rattle.written_terms.specs.Printing.{head_text}
 
--- the name of the declared symbol with the number
-abbrev pub symbol_name : Table → ℕ → List ℕ
-symbol_name table number = (slice_index_or (symbols_of table) number (record { name = []; arity = 0 })).name
+-- Heads have texts.
+module _ {H : Type 0} (text_of : H → List ℕ) where
+  -- the text of a constant is that of its head; another term has its arguments behind it in round brackets, with a comma
+  -- and a blank between two
+  abbrev mutual
+    pub print_by : Tree H → List ℕ
+    print_by (node head args) = text_of head ++ in_brackets args
 
--- the string that holds the bytes: their spelling between quotes
-abbrev pub quoted : List ℕ → List ℕ
-quoted bytes = codes "\"" ++ spelled bytes ++ codes "\""
+    pub in_brackets : Forest H → List ℕ
+    in_brackets empty = []
+    in_brackets (grow t ts) = codes "(" ++ print_by t ++ behind_commas ts ++ codes ")"
 
--- the text of a head: a name, a number in decimal digits, or a string between quotes
-abbrev pub head_text : Table → Head → List ℕ
-head_text table (Symbol number) = symbol_name table number
-head_text table (Numeral value) = signed_decimal value
-head_text table (Atom number) = slice_index_or table.atoms number []
-head_text table (Text number) = quoted (slice_index_or table.texts number [])
+    pub behind_commas : Forest H → List ℕ
+    behind_commas empty = []
+    behind_commas (grow t ts) = codes ", " ++ print_by t ++ behind_commas ts
 
--- the text of a constant is that of its head; another term has its arguments behind it in round brackets, with a comma and a blank between two
-abbrev mutual
-  pub print : Table → Tree Head → List ℕ
-  print table (node head args) = head_text table head ++ in_brackets table args
-
-  pub in_brackets : Table → Forest Head → List ℕ
-  in_brackets table empty = []
-  in_brackets table (grow t ts) = codes "(" ++ print table t ++ behind_commas table ts ++ codes ")"
-
-  pub behind_commas : Table → Forest Head → List ℕ
-  behind_commas table empty = []
-  behind_commas table (grow t ts) = codes ", " ++ print table t ++ behind_commas table ts
-
--- the head has a text: its number, if it has one, is that of a symbol, an atom or a text of the table
-abbrev pub HasText : Table → Head → Type 0
-HasText table (Symbol number) = IsLive table number
-HasText table (Numeral value) = Unit {0}
-HasText table (Atom number) = number < length table.atoms
-HasText table (Text number) = number < length table.texts
-
--- each head of the term has a text
-abbrev pub IsPrintable : Table → Tree Head → Type 0
-IsPrintable table t = AllHeads (HasText table) t
+-- the print of a term: its symbols by their names in the table
+abbrev pub print : Table → Tree ReadHead → List ℕ
+print table t = print_by (head_text table) t

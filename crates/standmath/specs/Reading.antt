@@ -1,25 +1,16 @@
--- The terms and patterns that stand in a text.
-use Rattle.std.specs.Prelude.{ℕ, List, []}
-use Rattle.eq_base.specs.Tree.{Tree, map_heads}
-use Rattle.eq_base.specs.Pattern.{PatternCell, fixed}
-use Rattle.eq_base.specs.declared.head.Head.{Head}
-use Rattle.term_lex.specs.Lexemes.{Lexeme, Scans, Reads}
+-- The terms and patterns that stand in a text, in this notation.
+use Rattle.std.specs.Prelude.{ℕ, List}
+use Rattle.eq_base.specs.Tree.{Tree}
+use Rattle.eq_base.specs.Pattern.{PatternCell}
+use Rattle.eq_base.specs.ReadHead.{ReadHead}
 use Rattle.symbol_table.specs.Table.{Table}
-use Rattle.standmath.specs.Terms.{Written, IsTerm, IsSomeTerm, IsDotted}
-use Rattle.standmath.specs.Meaning.{Means}
+use Rattle.written_terms.specs.Reading as written
+use Rattle.standmath.specs.Notation.{standmath}
 
 -- the text from `at` to `end` is a written term and a dot, and the term means this ground term
-pub record ReadsTerm (table : Table) (text : List ℕ) (at : ℕ) (term : Tree Head) (end : ℕ) : Type 0 where
-  pub written : Written
-  pub lexemes : List Lexeme
-  pub scanned : Scans text at lexemes end
-  pub spelled : IsDotted written lexemes
-  pub means : Means table [] written (map_heads fixed term)
+abbrev pub ReadsTerm : Table → List ℕ → ℕ → Tree ReadHead → ℕ → Type 0
+ReadsTerm table text at term end = written.ReadsTerm standmath table text at term end
 
 -- the text from `at` to `end` is a written term, which takes as many lexemes as it can and means this pattern
-pub record ReadsPattern (table : Table) (variables : List (List ℕ)) (text : List ℕ) (at : ℕ) (pattern : Tree (PatternCell Head)) (end : ℕ) : Type 0 where
-  pub written : Written
-  pub lexemes : List Lexeme
-  pub reads : Reads IsSomeTerm text at lexemes end
-  pub spelled : IsTerm written lexemes
-  pub means : Means table variables written pattern
+abbrev pub ReadsPattern : Table → List (List ℕ) → List ℕ → ℕ → Tree (PatternCell ReadHead) → ℕ → Type 0
+ReadsPattern table variables text at pattern end = written.ReadsPattern standmath table variables text at pattern end

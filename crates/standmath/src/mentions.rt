@@ -1,20 +1,13 @@
 ghost use Rattle.std.specs.Prelude.{◌≡◌, ◌<◌, [], length, map, OnOk};
 ghost use Rattle.term_lex.specs.declared.token.TokenKind.TheVariants.{OpenRound};
-ghost use Rattle.standmath.specs.Mentions.{met_head, met_kind, pair_of, is_closed};
+ghost use Rattle.written_terms.specs.Mentions.{pair_of};
+ghost use Rattle.standmath.specs.Mentions.{met_head, met_kind, is_closed};
 
 use eq_base::NoMemory;
 use std::alloc::Global;
 use std::marker::Model;
 use term_lex::{Token, TokenKind};
-
-/// A name or a literal of a term, and how many arguments stand behind it.
-#[derive(Clone, Copy, Debug, PartialEq, Eq)]
-pub struct Mention {
-    /// The name or the literal.
-    pub token: Token,
-    /// The number of its arguments.
-    pub args: usize,
-}
+use written_terms::Mention;
 
 /// The names and literals of a term as they are met from left to right.
 #[derive(Drop)]

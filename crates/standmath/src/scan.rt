@@ -3,14 +3,14 @@ ghost use Rattle.term_lex.specs.declared.fault.Fault.{Fault};
 ghost use Rattle.term_lex.specs.Lexemes.{IsAnswer, IsFirstFault, Plainly};
 ghost use Rattle.standmath.specs.Terms.{IsSomeTerm};
 ghost use Rattle.standmath.specs.Steps.{ends_term};
-ghost use Rattle.standmath.specs.Answering.{IfRefused, AnswersRight, AnswersAs};
+ghost use Rattle.written_terms.specs.Answering.{IfRefused, AnswersRight, AnswersAs};
 ghost use Rattle.standmath.specs.Mentions.{is_closed, Mentioned};
 
-use crate::error::ReadError;
-use crate::mentions::{Mention, Mentions};
+use crate::mentions::Mentions;
 use crate::place::Place;
 use std::alloc::Global;
-use term_lex::{Fault, misplaced, next_token};
+use term_lex::{misplaced, next_token};
+use written_terms::{Mention, ReadError};
 
 /// Whether the tokens so far are a whole term.
 fn is_whole(met: &Mentions, place: Place) -> bool

@@ -4,7 +4,7 @@ use Rattle.eq_base.specs.declared.meeting.SymbolClass.{SymbolClass}
 use Rattle.std.specs.Prelude.{Contains}
 use Rattle.eq_base.specs.declared.meeting.SymbolClass.TheVariants.{TruthValues}
 use Rattle.symbol_table.proofs.Places.{kept}
-use Rattle.symbol_table.specs.Table.{Table, Declared, Includes, truth_values, IsDeclared, HasName, Interns, InternsAtom, InternsText, IsFront, Keeps}
+use Rattle.symbol_table.specs.Table.{Table, Declared, Includes, truth_values, IsDeclared, HasName, Interns, InternsAtom, InternsText, IsFront, Keeps, names_of}
 
 -- an element keeps its number in a longer list
 pub front_get : {A : Type 0} (old new : List A) (k : ℕ) (x : A) → IsFront old new → slice_get old k ≡ Some x → slice_get new k ≡ Some x
@@ -49,6 +49,10 @@ keeps_text old new bytes number (i, is) = record {
 
 pub keeps_same : (old new : Table) → new ≡ old → Keeps old new
 keeps_same old new is = subst (Keeps old) (sym is) (keeps_refl old)
+
+-- what is declared and included stays
+pub names_kept : (old new : Table) → Keeps old new → names_of new ≡ names_of old
+names_kept old new k = λ i. record { declared = k.declared i; included = k.included i; atoms = []; texts = [] }
 
 -- Two tables that declare and include the same.
 module _ (one other : Table) (declared : one.declared ≡ other.declared) (included : one.included ≡ other.included) where

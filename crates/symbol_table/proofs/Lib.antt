@@ -5,3 +5,5 @@ mod Numbers
 mod LookUps
 pub mod Growing
 pub mod Keeping
+pub mod Numberings
+pub mod Rereading

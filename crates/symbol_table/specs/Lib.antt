@@ -1,4 +1,5 @@
 pub mod Table
 pub mod Refusing
 pub mod Variables
+pub mod Reading
 pub mod Entries

@@ -21,6 +21,10 @@ pub record Table : Type 0 where
 abbrev pub no_names : Table
 no_names = record { declared = []; included = []; atoms = []; texts = [] }
 
+-- what a table declares and includes, without atoms and texts
+abbrev pub names_of : Table → Table
+names_of table = record { declared = table.declared; included = table.included; atoms = []; texts = [] }
+
 -- the class is included
 abbrev pub Includes : Table → SymbolClass → Type 0
 Includes table class = Contains table.included class
@@ -33,10 +37,15 @@ truth_values = record { name = codes "true"; arity = 0 } ∷ record { name = cod
 abbrev pub symbols_of : Table → List Declared
 symbols_of table = truth_values ++ table.declared
 
--- the table declares the name with this number and this number of arguments; the truth values are declared where their class is included
-pub record IsDeclared (table : Table) (name : List ℕ) (number arity : ℕ) : Type 0 where
-  pub listed : slice_get (symbols_of table) number ≡ Some (record { name = name; arity = arity })
-  pub known : number < 2 → Includes table TruthValues
+-- the names are listed with this number and this number of arguments; the truth values are known where their class is
+-- included
+pub record IsListed (declared : List Declared) (included : List SymbolClass) (name : List ℕ) (number arity : ℕ) : Type 0 where
+  pub listed : slice_get (truth_values ++ declared) number ≡ Some (record { name = name; arity = arity })
+  pub known : number < 2 → Contains included TruthValues
+
+-- the table declares the name with this number and this number of arguments
+abbrev pub IsDeclared : Table → List ℕ → ℕ → ℕ → Type 0
+IsDeclared table name number arity = IsListed table.declared table.included name number arity
 
 -- the name is declared
 abbrev pub HasName : Table → List ℕ → Type 0

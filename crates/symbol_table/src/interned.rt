@@ -39,7 +39,8 @@ impl Interned {
 
     /// How many byte strings there are.
     pub fn len(&self) -> usize
-        ensures { result ≡ length self.now }
+        ensures len { result ≡ length self.now }
+        ensures distinct { AreDistinct self.now }
     {
         self.keys.len()
     }

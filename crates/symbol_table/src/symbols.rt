@@ -1,7 +1,9 @@
 ghost use Rattle.std.specs.Prelude.{◌≡◌, ◌↔◌, ℕ, ◌+◌, ◌<◌, ◌≤◌, ◌^◌, [], ◌++◌, Some, length, take, slice_get, slice_index_or, IsTrue, IfSome, IsNone, IfOk, OnOk, IfErr, OnErr};
+ghost use Rattle.eq_base.specs.declared.head.Head.{Head as HeadValue};
 ghost use Rattle.eq_base.specs.declared.meeting.SymbolClass.{SymbolClass as Class};
 ghost use Rattle.eq_base.specs.Meeting.{class_number};
 ghost use Rattle.symbol_table.specs.Table.{no_names, Includes, IsDeclared, HasName, HasTruthName, IsLive, HasOneNumberEach, Declares, AddsClass, InternsAtom, InternsText, Resolves};
+ghost use Rattle.symbol_table.specs.Reading.{read_head, IsLiveHead};
 ghost use Rattle.symbol_table.specs.Refusing.{IfRefused, RefusesDeclaration, IsTaken, RefusesInclude, RefusesUse};
 
 use crate::classes::class_named;
@@ -222,6 +224,16 @@ impl Symbols {
         let alloc = *self.arities.allocator();
         let bytes = joined(alloc, self.texts.get(one), self.texts.get(other))?;
         self.texts.insert(bytes)
+    }
+
+    /// Each name, atom and text has one number, and heads whose numbers are live are read differently where they differ.
+    /// It does nothing.
+    pub fn has_one_number_each(&self)
+        ensures distinct { HasOneNumberEach self.now }
+        ensures apart { (one other : HeadValue) → IsLiveHead self.now one → IsLiveHead self.now other
+            → read_head self.now one ≡ read_head self.now other → one ≡ other }
+    {
+        let _ = &self.arities;
     }
 
     /// The name of a declared symbol.

@@ -59,4 +59,11 @@ impl Variables {
         let index = self.names.find(name)?;
         Some(index as u32)
     }
+
+    /// Each name has one number. It does nothing.
+    pub fn has_one_number_each(&self)
+        ensures { AreDistinct self.now }
+    {
+        let _ = self.names.len();
+    }
 }

@@ -1,7 +1,7 @@
 -- The faults by their numbers and their names.
 use Rattle.std.specs.Prelude.{ℕ, List, codes}
 use Rattle.term_lex.specs.declared.fault.FaultKind.{FaultKind}
-use Rattle.term_lex.specs.declared.fault.FaultKind.TheVariants.{BadByte, OpenString, BadEscape, NumeralPast, NameLong, StringLong, Expected, Unended, TermLong, Twice, ArityPast, UnknownClass, Unknown, WrongArity, NotIncluded, FileLong, EquationsPast, UnknownEquationClass, LeftNotApplication, VariableTwice, QualifiedUnknown, SideLong, SchemaNeeds, QualifiedTwice, NotYet}
+use Rattle.term_lex.specs.declared.fault.FaultKind.TheVariants.{BadByte, OpenString, BadEscape, NumeralPast, NameLong, StringLong, Expected, Unended, DotPlace, ListNeedsCons, TermLong, Twice, ArityPast, UnknownClass, Unknown, WrongArity, NotIncluded, FileLong, EquationsPast, UnknownEquationClass, LeftNotApplication, VariableTwice, QualifiedUnknown, SideLong, SchemaNeeds, QualifiedTwice, ExpansionPast, QualifierCircle, NotYet}
 
 -- the number of a fault
 abbrev pub fault_number : FaultKind → ℕ
@@ -13,6 +13,8 @@ fault_number NameLong = 5
 fault_number StringLong = 6
 fault_number (Expected found) = 10
 fault_number Unended = 11
+fault_number DotPlace = 12
+fault_number ListNeedsCons = 13
 fault_number TermLong = 14
 fault_number Twice = 20
 fault_number ArityPast = 21
@@ -29,6 +31,8 @@ fault_number QualifiedUnknown = 35
 fault_number SideLong = 36
 fault_number SchemaNeeds = 37
 fault_number QualifiedTwice = 38
+fault_number ExpansionPast = 40
+fault_number QualifierCircle = 41
 fault_number NotYet = 50
 
 -- the name of a fault
@@ -41,6 +45,8 @@ fault_word NameLong = codes "NameLong"
 fault_word StringLong = codes "StringLong"
 fault_word (Expected found) = codes "Expected"
 fault_word Unended = codes "Unended"
+fault_word DotPlace = codes "DotPlace"
+fault_word ListNeedsCons = codes "ListNeedsCons"
 fault_word TermLong = codes "TermLong"
 fault_word Twice = codes "Twice"
 fault_word ArityPast = codes "ArityPast"
@@ -57,4 +63,6 @@ fault_word QualifiedUnknown = codes "QualifiedUnknown"
 fault_word SideLong = codes "SideLong"
 fault_word SchemaNeeds = codes "SchemaNeeds"
 fault_word QualifiedTwice = codes "QualifiedTwice"
+fault_word ExpansionPast = codes "ExpansionPast"
+fault_word QualifierCircle = codes "QualifierCircle"
 fault_word NotYet = codes "NotYet"

@@ -26,6 +26,10 @@ pub enum FaultKind {
     },
     /// The text ends where more is needed.
     Unended,
+    /// A dot stands where a list has no place for one.
+    DotPlace,
+    /// A list is written, and `cons` and `nil` are not declared with two arguments and none.
+    ListNeedsCons,
     /// A term has more than 2^24 bytes.
     TermLong,
     /// A name is declared or included already.
@@ -63,6 +67,10 @@ pub enum FaultKind {
     SchemaNeeds,
     /// A variable is qualified already in the equation.
     QualifiedTwice,
+    /// The equations without qualifiers are too many, or have too many cells.
+    ExpansionPast,
+    /// A variable with alternatives depends on itself.
+    QualifierCircle,
     /// The file uses a part of the language that this version does not take.
     NotYet,
 }
@@ -81,6 +89,8 @@ impl FaultKind {
             FaultKind::StringLong => 6,
             FaultKind::Expected { .. } => 10,
             FaultKind::Unended => 11,
+            FaultKind::DotPlace => 12,
+            FaultKind::ListNeedsCons => 13,
             FaultKind::TermLong => 14,
             FaultKind::Twice => 20,
             FaultKind::ArityPast => 21,
@@ -97,6 +107,8 @@ impl FaultKind {
             FaultKind::SideLong => 36,
             FaultKind::SchemaNeeds => 37,
             FaultKind::QualifiedTwice => 38,
+            FaultKind::ExpansionPast => 40,
+            FaultKind::QualifierCircle => 41,
             FaultKind::NotYet => 50,
         }
     }
@@ -114,6 +126,8 @@ impl FaultKind {
             FaultKind::StringLong => "StringLong",
             FaultKind::Expected { .. } => "Expected",
             FaultKind::Unended => "Unended",
+            FaultKind::DotPlace => "DotPlace",
+            FaultKind::ListNeedsCons => "ListNeedsCons",
             FaultKind::TermLong => "TermLong",
             FaultKind::Twice => "Twice",
             FaultKind::ArityPast => "ArityPast",
@@ -130,6 +144,8 @@ impl FaultKind {
             FaultKind::SideLong => "SideLong",
             FaultKind::SchemaNeeds => "SchemaNeeds",
             FaultKind::QualifiedTwice => "QualifiedTwice",
+            FaultKind::ExpansionPast => "ExpansionPast",
+            FaultKind::QualifierCircle => "QualifierCircle",
             FaultKind::NotYet => "NotYet",
         }
     }

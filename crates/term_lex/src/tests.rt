@@ -138,8 +138,12 @@ fn numbers_and_words(rt: HostRuntime) {
     let cases = [
         (FaultKind::BadByte, 1, "BadByte"),
         (FaultKind::Unended, 11, "Unended"),
+        (FaultKind::DotPlace, 12, "DotPlace"),
+        (FaultKind::ListNeedsCons, 13, "ListNeedsCons"),
         (wrong, 24, "WrongArity"),
         (FaultKind::QualifiedTwice, 38, "QualifiedTwice"),
+        (FaultKind::ExpansionPast, 40, "ExpansionPast"),
+        (FaultKind::QualifierCircle, 41, "QualifierCircle"),
         (FaultKind::NotYet, 50, "NotYet"),
     ];
     for (kind, number, word) in cases {

@@ -106,7 +106,7 @@ fn take_restriction(
 ) -> Result<Choice, FileError>
     requires placed { ArePlaced text.now (restriction_places (restriction written.now)) }
     ensures taking { (operations : List Operator) → IsTaking text.now (knowing symbols.old variables.now operations) (restriction_places (restriction written.now)) (knowing symbols.new variables.now operations) result }
-    ensures choice { IfOk result (λ choice. Lasts (λ known. TakesChoice text.now known (restriction written.now) choice) symbols.new variables.now) }
+    ensures choice { IfOk result (λ choice. Lasts (λ known table. TakesChoice text.now known table (restriction written.now) choice) symbols.new variables.now) }
     ensures keeps { Keeps symbols.old symbols.new }
 {
     match written {
@@ -132,7 +132,7 @@ fn take_condition(
 ) -> Result<TakenCondition, FileError>
     requires placed { ArePlaced text.now (Qualified (qualified_names before.now) condition.now.variable ∷ restriction_places (restriction condition.now.restriction)) }
     ensures taking { (operations : List Operator) → IsTaking text.now (knowing symbols.old variables.now operations) (Qualified (qualified_names before.now) condition.now.variable ∷ restriction_places (restriction condition.now.restriction)) (knowing symbols.new variables.now operations) result }
-    ensures condition { IfOk result (λ taken. Lasts (λ known. TakesCondition text.now known condition.now.variable (restriction condition.now.restriction) taken) symbols.new variables.now) }
+    ensures condition { IfOk result (λ taken. Lasts (λ known table. TakesCondition text.now known table condition.now.variable (restriction condition.now.restriction) taken) symbols.new variables.now) }
     ensures keeps { Keeps symbols.old symbols.new }
 {
     let variable = take_qualified(text, before, condition.variable, variables)?;
@@ -154,7 +154,7 @@ pub fn take_conditions(
 ) -> Result<Vec<TakenCondition>, FileError>
     requires placed { ArePlaced text.now (condition_places [] (map condition conditions.now)) }
     ensures taking { (operations : List Operator) → IsTaking text.now (knowing symbols.old variables.now operations) (condition_places [] (map condition conditions.now)) (knowing symbols.new variables.now operations) result }
-    ensures conditions { IfOk result (λ taken. Lasts (λ known. AreRelated (λ c t. TakesCondition text.now known c.variable c.restriction t) (map condition conditions.now) taken.items) symbols.new variables.now) }
+    ensures conditions { IfOk result (λ taken. Lasts (λ known table. AreRelated (λ c t. TakesCondition text.now known table c.variable c.restriction t) (map condition conditions.now) taken.items) symbols.new variables.now) }
     ensures keeps { Keeps symbols.old symbols.new }
 {
     let mut taken = Vec::new(alloc);

@@ -9,6 +9,7 @@ ghost use Rattle.def_file.specs.Naming.{ArePlaced, IsTaking, knowing};
 ghost use Rattle.def_file.specs.Operations.{operation_name};
 ghost use Rattle.def_file.specs.Pairs.{AreRelated};
 ghost use Rattle.def_file.specs.Sides.{equation_of, all_limits, AnswersLimits};
+ghost use Rattle.def_file.specs.AsRead.{numbered_read, AreLiveItems};
 ghost use Rattle.def_file.specs.Definitions.{MeanItems};
 ghost use Rattle.def_file.specs.Taking.{Lasts, TakesEquation, TakesItem, class_item, items_behind, equations_behind, fault_behind};
 
@@ -55,7 +56,7 @@ fn take_equation(
 ) -> Result<TakenEquation, FileError>
     requires placed { ArePlaced text.now (equation_places (sides equation.now)) }
     ensures taking { (operations : List Operator) → IsTaking text.now (knowing symbols.old variables.now operations) (equation_places (sides equation.now)) (knowing symbols.new variables.now operations) result }
-    ensures equation { IfOk result (λ taken. Lasts (λ known. TakesEquation text.now known (sides equation.now) taken) symbols.new variables.now) }
+    ensures equation { IfOk result (λ taken. Lasts (λ known table. TakesEquation text.now known table (sides equation.now) taken) symbols.new variables.now) }
     ensures keeps { Keeps symbols.old symbols.new }
 {
     let left = take_term(alloc, text, equation.left, symbols, variables)?;
@@ -100,7 +101,7 @@ fn take_item(
 ) -> Result<TakenItem, FileError>
     requires placed { ArePlaced text.now (item_places (equation_item item.now)) }
     ensures taking { IsTaking text.now (knowing symbols.old variables.now operations.old.items) (item_places (equation_item item.now)) (knowing symbols.new variables.now operations.new.items) result }
-    ensures item { IfOk result (λ taken. Lasts (λ known. TakesItem text.now known before (equation_item item.now) taken) symbols.new variables.now) }
+    ensures item { IfOk result (λ taken. Lasts (λ known table. TakesItem text.now known table before (equation_item item.now) taken) symbols.new variables.now) }
     ensures keeps { Keeps symbols.old symbols.new }
 {
     match item {
@@ -182,8 +183,9 @@ pub fn take_items(
     requires placed { ArePlaced text.now (flat_map item_places (map equation_item items.now)) }
     requires room { length items.now ≤ 2 ^ 24 }
     ensures taking { IsTaking text.now (knowing symbols.old variables.now operations.old.items) (flat_map item_places (map equation_item items.now)) (knowing symbols.new variables.now operations.new.items) result }
-    ensures items { IfOk result (λ taken. Lasts (λ known. MeanItems text.now known 1 (map equation_item items.now) taken.items.items) symbols.new variables.now) }
-    ensures limits { IfOk result (λ taken. Lasts (λ known. AnswersLimits text.now known (all_limits 0 (flat_map equation_of (map equation_item items.now))) taken.fault) symbols.new variables.now) }
+    ensures items { IfOk result (λ taken. Lasts (λ known table. MeanItems text.now known 1 (map equation_item items.now) (map (numbered_read table) taken.items.items)) symbols.new variables.now) }
+    ensures live { IfOk result (λ taken. Lasts (λ known table. AreLiveItems table taken.items.items) symbols.new variables.now) }
+    ensures limits { IfOk result (λ taken. Lasts (λ known table. AnswersLimits text.now known (all_limits 0 (flat_map equation_of (map equation_item items.now))) taken.fault) symbols.new variables.now) }
     ensures keeps { Keeps symbols.old symbols.new }
 {
     let mut taken = Taken {

@@ -2,7 +2,7 @@
 ghost use Rattle.std.specs.Prelude.{◌≡◌, ◌≢◌, ◌↔◌, ℕ, List, ◌∷◌, [], map, IsTrue, IfOk, MatchOption};
 ghost use Rattle.std.specs.List.{AllByRecursion};
 ghost use Rattle.eq_base.specs.declared.rules.Op.{Op as Operator};
-ghost use Rattle.symbol_table.specs.Table.{IsDeclared, Includes};
+ghost use Rattle.symbol_table.specs.Table.{IsDeclared, Includes, names_of};
 ghost use Rattle.def_file.specs.Operations.{operation_name, operation_symbol, operation_classes, HasNeeds};
 ghost use Rattle.def_file.specs.Names.{Operation, bytes_of};
 ghost use Rattle.def_file.specs.Naming.{IsPlaced, ArePlaced, IsTaking, knowing};
@@ -66,8 +66,8 @@ fn operation_named(name: &[u8]) -> Option<Op>
     }
 }
 
-/// The symbol at the root of the class's left sides.
-fn symbol_of(op: Op) -> (&'static [u8], u8)
+/// The name of the symbol at the root of the class's left sides, and its arity.
+pub fn symbol_of(op: Op) -> (&'static [u8], u8)
     ensures name { result.0.now ≡ (operation_symbol op).name }
     ensures arity { result.1 ≡ (operation_symbol op).arity }
 {
@@ -128,7 +128,7 @@ fn has_classes(op: Op, symbols: &Symbols) -> bool
 
 /// Whether all that the class needs is declared and included.
 fn has_needs(op: Op, symbols: &Symbols) -> bool
-    ensures { IsTrue result ↔ HasNeeds symbols.now op }
+    ensures { IsTrue result ↔ HasNeeds (names_of symbols.now) op }
 {
     has_symbol(op, symbols) && has_classes(op, symbols)
 }

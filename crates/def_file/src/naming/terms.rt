@@ -3,10 +3,9 @@ ghost use Rattle.std.specs.Prelude.{◌≡◌, ◌≤◌, ℕ, List, ◌∷◌, 
 ghost use Rattle.eq_base.specs.declared.rules.Op.{Op as Operator};
 ghost use Rattle.symbol_table.specs.Table.{Keeps};
 ghost use Rattle.def_file.specs.Names.{Term};
-ghost use Rattle.def_file.specs.Sides.{IsPattern};
 ghost use Rattle.def_file.specs.Naming.{ArePlaced, IsTaking, knowing};
 ghost use Rattle.def_file.specs.Pairs.{AreRelated};
-ghost use Rattle.def_file.specs.Taking.{Lasts};
+ghost use Rattle.def_file.specs.Taking.{Lasts, IsTaken};
 
 use crate::error::FileError;
 use eq_base::Pattern;
@@ -24,7 +23,7 @@ pub fn take_term(
 ) -> Result<Pattern, FileError>
     requires placed { byte ≤ length text.now }
     ensures taking { (operations : List Operator) → IsTaking text.now (knowing symbols.old variables.now operations) (Term byte ∷ []) (knowing symbols.new variables.now operations) result }
-    ensures pattern { IfOk result (λ pattern. Lasts (λ known. IsPattern text.now known byte pattern) symbols.new variables.now) }
+    ensures pattern { IfOk result (λ pattern. Lasts (λ known table. IsTaken text.now known table byte pattern) symbols.new variables.now) }
     ensures keeps { Keeps symbols.old symbols.new }
 {
     let (pattern, _) = read_pattern(alloc, symbols, variables, text, byte)?;
@@ -41,7 +40,7 @@ pub fn take_terms(
 ) -> Result<Vec<Pattern>, FileError>
     requires placed { ArePlaced text.now (map Term terms.now) }
     ensures taking { (operations : List Operator) → IsTaking text.now (knowing symbols.old variables.now operations) (map Term terms.now) (knowing symbols.new variables.now operations) result }
-    ensures patterns { IfOk result (λ patterns. Lasts (λ known. AreRelated (IsPattern text.now known) terms.now patterns.items) symbols.new variables.now) }
+    ensures patterns { IfOk result (λ patterns. Lasts (λ known table. AreRelated (IsTaken text.now known table) terms.now patterns.items) symbols.new variables.now) }
     ensures keeps { Keeps symbols.old symbols.new }
 {
     let mut patterns = Vec::new(alloc);

@@ -9,6 +9,7 @@ use Rattle.def_file.specs.Names.{Variable, nothing_known, symbol_places, item_pl
 use Rattle.def_file.specs.Naming.{ArePlaced, knowing, only_symbols, no_operations}
 use Rattle.symbol_table.proofs.Keeping.{keeps_refl}
 use Rattle.def_file.specs.Sides.{equation_of, all_limits, AnswersLimits}
+use Rattle.def_file.specs.AsRead.{numbered_read}
 use Rattle.def_file.specs.Definitions.{MeanItems}
 use Rattle.def_file.proofs.Placed.{file_placed}
 use Rattle.def_file.proofs.Few.{file_few}
@@ -72,7 +73,10 @@ take_items-requires-clause-room c =
     omega (arith, few, same, c.requires.short)
 
 pub returns-clause-items : goal.returns-clause-items
-returns-clause-items c = subst (λ xs. MeanItems c.args.text.now (knowing c.take_items.new.symbols c.take_variables.new.variables c.take_items.new.operations.items) 1 (map equation_item xs) c.in_ok-taken.taken.items.items) c.deref-3.ensures.value (c.in_ok-taken.ensures.items c.take_items.new.symbols c.take_items.new.operations.items (keeps_refl _))
+returns-clause-items c = subst (λ xs. MeanItems c.args.text.now (knowing c.take_items.new.symbols c.take_variables.new.variables c.take_items.new.operations.items) 1 (map equation_item xs) (map (numbered_read c.take_items.new.symbols) c.in_ok-taken.taken.items.items)) c.deref-3.ensures.value (c.in_ok-taken.ensures.items c.take_items.new.symbols c.take_items.new.operations.items (keeps_refl _))
 
 pub returns-clause-limits : goal.returns-clause-limits
 returns-clause-limits c = subst (λ xs. AnswersLimits c.args.text.now (knowing c.take_items.new.symbols c.take_variables.new.variables c.take_items.new.operations.items) (all_limits 0 (flat_map equation_of (map equation_item xs))) c.in_ok-taken.taken.fault) c.deref-3.ensures.value (c.in_ok-taken.ensures.limits c.take_items.new.symbols c.take_items.new.operations.items (keeps_refl _))
+
+pub returns-clause-live : goal.returns-clause-live
+returns-clause-live c = c.in_ok-taken.ensures.live c.take_items.new.symbols c.take_items.new.operations.items (keeps_refl _)

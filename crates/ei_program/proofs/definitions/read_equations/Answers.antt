@@ -4,6 +4,7 @@ use Rattle.std.specs.Prelude.{IfOk, IfErr, Result, slice_get, None}
 use Rattle.def_file.specs.declared.error.FileError.{FileError}
 use Rattle.def_file.specs.declared.error.FileError.TheVariants.{Refused, NoMemory}
 use Rattle.def_file.specs.declared.definitions.Definitions.{Definitions as FileDefinitions}
+use Rattle.def_file.specs.AsRead.{definitions_read}
 use Rattle.def_file.specs.Definitions.{Says, IsFileFault}
 use Rattle.def_file.specs.Errors.{IfRefused}
 use Rattle.def_file.specs.Trees.{File}
@@ -30,14 +31,14 @@ none_of text found is (file, reads, first) = (file, reads, sym is ∙ first)
 built : (text : List ℕ) → (file : File) × IsFileText text file × (None ≡ slice_get (unbuilt_of file) 0) → IsBuilt text
 built text (file, reads, none) = record { file = file; reads = reads; none = none_first (unbuilt_of file) none }
 
-module _ (text : List ℕ) (read : FileDefinitions) (says : Says text read) (built : IsBuilt text) where
+module _ (text : List ℕ) (read : FileDefinitions) (says : Says text (definitions_read read)) (built : IsBuilt text) where
   gathered_ok : (r : Result Equations FileError) → AreGathered read r → IfOk r (λ equations. Defines text (definitions_in equations))
-  gathered_ok (Ok e) (is, small) = (record { read = read; says = says; built = built; is = is }, subst (λ (d : Definitions). AreSmall d.equations) (sym is) small)
+  gathered_ok (Ok e) (is, small) = (record { read = definitions_read read; says = says; built = built; is = is }, subst (λ (d : Definitions). AreSmall d.equations) (sym is) small)
   gathered_ok (Err e) g = tt
 
   gathered_err : (r : Result Equations FileError) → AreGathered read r → IfErr r (IfRefused (RefusesFile text))
   gathered_err (Ok e) g = tt
-  gathered_err (Err (Refused fault)) (large, is) = inr (inr (record { definitions = as_equations read; gives = record { read = read; says = says; built = built; is = refl }; large = large; is = is }))
+  gathered_err (Err (Refused fault)) (large, is) = inr (inr (record { definitions = as_equations (definitions_read read); gives = record { read = definitions_read read; says = says; built = built; is = refl }; large = large; is = is }))
   gathered_err (Err NoMemory) g = tt
 
 pub returns-in-Err-clause-refused : goal.returns-in-Err-clause-refused
@@ -47,14 +48,14 @@ pub returns-in-Ok-Some-clause-refused : goal.returns-in-Ok-Some-clause-refused
 returns-in-Ok-Some-clause-refused c =
     let found = c.in-Ok-Some.ensures.ok in
     subst (IfRefused (RefusesFile c.args.text.now)) (sym c.not_yet.ensures) (inr (inl (record {
-      read = c.in_ok-definitions.definitions;
+      read = definitions_read c.in_ok-definitions.definitions;
       says = c.in_ok-definitions.ensures.answer;
       unbuilt = record { file = found.0; reads = found.1; first = sym found.2 ∙ c.in-Ok-Some.field-0-is };
       kind = refl;
     })))
 
 pub returns-in-Ok-None-clause-ok : goal.returns-in-Ok-None-clause-ok
-returns-in-Ok-None-clause-ok c = gathered_ok c.args.text.now c.in_ok-definitions.definitions c.in_ok-definitions.ensures.answer (built c.args.text.now (none_of c.args.text.now c.in-Ok-None.field-0 c.in-Ok-None.field-0-is c.in-Ok-None.ensures.ok)) c.equations_in.result c.equations_in.ensures
+returns-in-Ok-None-clause-ok c = gathered_ok c.args.text.now c.in_ok-definitions.definitions c.in_ok-definitions.ensures.answer (built c.args.text.now (none_of c.args.text.now c.in-Ok-None.field-0 c.in-Ok-None.field-0-is c.in-Ok-None.ensures.ok)) c.equations_in.result c.equations_in.ensures.gathered
 
 pub returns-in-Ok-None-clause-refused : goal.returns-in-Ok-None-clause-refused
-returns-in-Ok-None-clause-refused c = gathered_err c.args.text.now c.in_ok-definitions.definitions c.in_ok-definitions.ensures.answer (built c.args.text.now (none_of c.args.text.now c.in-Ok-None.field-0 c.in-Ok-None.field-0-is c.in-Ok-None.ensures.ok)) c.equations_in.result c.equations_in.ensures
+returns-in-Ok-None-clause-refused c = gathered_err c.args.text.now c.in_ok-definitions.definitions c.in_ok-definitions.ensures.answer (built c.args.text.now (none_of c.args.text.now c.in-Ok-None.field-0 c.in-Ok-None.field-0-is c.in-Ok-None.ensures.ok)) c.equations_in.result c.equations_in.ensures.gathered

@@ -2,11 +2,12 @@ use Rattle.std.proofs.Common.{◌≡◌, ℕ, List, arith, inl, inr, refl, sym, 
 use Rattle.std.specs.Prelude.{IfErr, Option}
 use Rattle.eq_base.specs.Tree.{Tree}
 use Rattle.eq_base.specs.declared.head.Head.{Head}
-use Rattle.symbol_table.specs.Table.{Table}
+use Rattle.symbol_table.specs.Table.{Table, names_of}
+use Rattle.symbol_table.specs.Reading.{read}
 use Rattle.standmath.specs.Refusing.{IsTermAt}
-use Rattle.standmath.specs.Answering.{IfRefused}
-use Rattle.standmath.specs.declared.error.ReadError.{ReadError}
-use Rattle.standmath.specs.declared.error.ReadError.TheVariants.{Refused, NoMemory}
+use Rattle.written_terms.specs.Answering.{IfRefused}
+use Rattle.written_terms.specs.declared.error.ReadError.{ReadError}
+use Rattle.written_terms.specs.declared.error.ReadError.TheVariants.{Refused, NoMemory}
 use Rattle.ei_program.specs.Input.{StandsNext, IsRefused}
 use Rattle.term_lex.proofs.Readings.{scans_within}
 use Rattle.ei_program.proofs.Inputs.{not_both}
@@ -19,17 +20,17 @@ refused table text byte stands NoMemory why = tt
 
 pub next_byte-requires-2 : goal.next_byte-requires-2
 next_byte-requires-2 c =
-    let read = c.in_ok-term.ensures.answer in
-    (scans_within c.args.text.now 0 read.lexemes c.in_ok-term.end (omega arith) read.scanned).1
+    let found = c.in_ok-term.ensures.answer in
+    (scans_within c.args.text.now 0 found.lexemes c.in_ok-term.end (omega arith) found.scanned).1
 
 pub returns-in-Some-next_byte-clause-refused : goal.returns-in-Some-next_byte-clause-refused
 returns-in-Some-next_byte-clause-refused c = record {
   something = not_both c.args.text.now 0 c.in-Some.field-0 c.in-Some.ensures.some;
-  why = inr (record { term = c.in_ok-term.term; end = c.in_ok-term.end; reads = c.in_ok-term.ensures.answer; more = c.in-Some-next_byte.ensures.some; kind = refl });
+  why = inr (record { term = read c.read_term.new.symbols c.in_ok-term.term; end = c.in_ok-term.end; reads = c.in_ok-term.ensures.answer; more = c.in-Some-next_byte.ensures.some; kind = refl });
 }
 
 pub returns-in_err-term-clause-refused : goal.returns-in_err-term-clause-refused
 returns-in_err-term-clause-refused c =
     let same : c.from_residual.result ≡ Err c.in_err-term.field-0.0 = search rules in
-    subst (λ (r : Result (Option (Tree Head)) ReadError). IfErr r (IfRefused (IsRefused c.read_term.new.symbols c.args.text.now))) (sym same)
-    (refused c.read_term.new.symbols c.args.text.now c.in-Some.field-0 c.in-Some.ensures.some c.in_err-term.field-0.0 c.in_err-term.ensures.answer)
+    subst (λ (r : Result (Option (Tree Head)) ReadError). IfErr r (IfRefused (IsRefused (names_of c.args.symbols.now) c.args.text.now))) (sym same)
+    (refused (names_of c.args.symbols.now) c.args.text.now c.in-Some.field-0 c.in-Some.ensures.some c.in_err-term.field-0.0 c.in_err-term.ensures.answer)

@@ -1,13 +1,23 @@
-use Rattle.std.proofs.Common.{sym, subst}
-use Rattle.regularity.specs.WellFormed.{AreWellFormed}
-use Rattle.ei_program.specs.Definitions.{Definitions}
+use Rattle.std.proofs.Common.{ap, subst}
 use Rattle.sequentiality.specs.Regular.{IsRefused}
-use Rattle.ei_program.proofs.Loadings.{breaks_of}
+use Rattle.ei_program.specs.Definitions.{Definitions}
+use Rattle.ei_program.proofs.Loadings.{breaks_of, broken_read, admitted}
 use Rattle.ei_program.proofs.FileEquations.{file_well_formed}
 use Rattle.ei_program.proofs.loading.admit.Goals as goal
 
 pub admit-requires : goal.admit-requires
-admit-requires c = let gives = c.requires.1.0 in subst (λ (d : Definitions). AreWellFormed d.equations) (sym gives.is) (file_well_formed c.requires.0 gives.read gives.says)
+admit-requires c =
+    let gives = c.requires.defined.1.0 in
+    file_well_formed c.requires.defined.0 gives.read gives.says c.args.equations.symbols c.args.equations.rules (ap (λ (d : Definitions). d.equations) gives.is)
+
+pub returns-in-Ok-clause-admitted : goal.returns-in-Ok-clause-admitted
+returns-in-Ok-clause-admitted c =
+    admitted c.args.equations c.in-Ok.regular c.requires.defined.0 c.requires.defined.1 c.requires.usable c.has_one_number_each.ensures.distinct c.in-Ok.ensures.ok c.in-Ok.ensures.regular
+
+pub returns-in-Err-Broken-clause-admitted : goal.returns-in-Err-Broken-clause-admitted
+returns-in-Err-Broken-clause-admitted c =
+    let broken = subst (IsRefused c.args.equations.rules) c.in-Err-Broken.field-0-is c.in-Err-Broken.ensures.err in
+    broken_read c.args.equations c.in-Err-Broken.rules c.in-Err-Broken.breaks c.requires.usable c.has_one_number_each.ensures.distinct broken
 
 pub returns-in-Err-Broken-clause-told : goal.returns-in-Err-Broken-clause-told
 returns-in-Err-Broken-clause-told c = let broken = subst (IsRefused c.args.equations.rules) c.in-Err-Broken.field-0-is c.in-Err-Broken.ensures.err in breaks_of c.args.equations.rules c.in-Err-Broken.rules c.in-Err-Broken.breaks broken.0 broken.1

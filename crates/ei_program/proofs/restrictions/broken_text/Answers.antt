@@ -1,7 +1,8 @@
 use Rattle.std.proofs.Common.{◌≡◌, ◌∙◌, ◌≤◌, ◌<◌, ◌-◌, ◌++◌, take, length, string_bytes, append_assoc, sym, ap, arith, rules}
 use Rattle.std.specs.Prelude.{codes, decimal, flat_map}
 use Rattle.ei_program.proofs.BrokenTexts.{told_whole, told_in_part}
-use Rattle.ei_program.specs.Restrictions.{break_line}
+use Rattle.eq_base.specs.Rules.{rule_of}
+use Rattle.ei_program.specs.Restrictions.{origin_of, break_line}
 use Rattle.ei_program.proofs.Sums.{flat_next}
 use Rattle.ei_program.proofs.BreaksInLists.{break_in_list}
 use Rattle.ei_program.proofs.restrictions.broken_text.Goals as goal
@@ -15,8 +16,8 @@ loop-i-preserved c =
     let bs = c.args.breaks.now in
     let i = c.loop-i.i in
     let line = string_bytes c.in_ok-line.line in
-    let front = flat_map (break_line es) (take i bs) in
-    let more = flat_next (break_line es) bs i c.get.result c.get.ensures in
+    let front = flat_map (break_line rule_of origin_of es) (take i bs) in
+    let more = flat_next (break_line rule_of origin_of es) bs i c.get.result c.get.ensures in
     let pushed : string_bytes c.push_str.new.self ≡ string_bytes c.loop-i.text ++ line = search rules in
     pushed ∙ ap (λ z. z ++ line) c.loop-i.invariant ∙ append_assoc (string_bytes c.in_ok-text.text) front line
     ∙ ap (λ z. string_bytes c.in_ok-text.text ++ z) (ap (λ z. front ++ z) c.in_ok-line.ensures ∙ sym more)

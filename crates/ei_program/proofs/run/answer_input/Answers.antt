@@ -9,7 +9,7 @@ use Rattle.ei_program.proofs.run.answer_input.Goals as goal
 
 pub returns-clause-left : goal.returns-clause-left
 returns-clause-left g c = λ bytes is.
-    let d = definitions_of c.answer_text-in-Failed.new.loaded in
+    let d = definitions_of c.args.loaded.now in
     let taken = c.in-Ok.taken.bytes.items in
     let left = g.I.Source.left c.take_up_to.new.source in
     let rest = rest_of (g.I.Source.left c.args.input.now) left bytes taken is c.in-Ok.ensures.taken.consumed in
@@ -22,7 +22,7 @@ returns-clause-left g c = λ bytes is.
 
 pub returns-in-Whole-clause-left : goal.returns-in-Whole-clause-left
 returns-in-Whole-clause-left g c = λ bytes is.
-    let d = definitions_of c.answer_text.new.loaded in
+    let d = definitions_of c.args.loaded.now in
     let taken = c.in-Ok.taken.bytes.items in
     let left = g.I.Source.left c.take_up_to.new.source in
     let rest = rest_of (g.I.Source.left c.args.input.now) left bytes taken is c.in-Ok.ensures.taken.consumed in

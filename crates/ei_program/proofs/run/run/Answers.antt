@@ -13,7 +13,7 @@ returns-in-Answer-clause-left g c = λ named bytes known is.
     let asked = subst (λ (task : Task). Asks given.words task c.in-Some.command.file.now) c.in-Answer.is c.in-Some.ensures.asked in
     let left = c.answer_input.ensures.left bytes is in (
       left.0,
-      answered given c.in-Answer.budget c.in-Some.command.file.now asked (definitions_of c.in-Ok.loaded) (definitions_of c.answer_input.new.loaded) (c.in-Ok.ensures.loaded named known) c.answer_input.ensures.grows (g.I.Source.left c.answer_input.new.input) c.answer_input.result left.0 left.1,
+      answered given c.in-Answer.budget c.in-Some.command.file.now asked (definitions_of c.in-Ok.loaded) (c.in-Ok.ensures.loaded named known) (g.I.Source.left c.answer_input.new.input) c.answer_input.result left.0 left.1,
       left.2,
     )
 

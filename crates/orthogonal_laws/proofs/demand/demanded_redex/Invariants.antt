@@ -1,17 +1,18 @@
 use Rattle.std.proofs.Common.{◌-◌, ◌<◌, ◌≤◌}
 use Rattle.eq_base.specs.Tree.{size, nth_subtree}
-use Rattle.orthogonal_laws.specs.Plain.{plain_system}
+use Rattle.eq_base.specs.Rules.{system_of}
+use Rattle.orthogonal_laws.specs.Operations.{Values}
 use Rattle.orthogonal_laws.specs.Orthogonal.{IsWellFormed, IsOrthogonal}
 use Rattle.orthogonal_laws.proofs.Followed.{IsFollowed}
 use Rattle.orthogonal_laws.proofs.demand.demanded_redex.Given as goal
 
-abbrev pub invariant-loop-equation : goal.invariant-loop-equation
-invariant-loop-equation l = record {
+abbrev pub invariant-loop-number : goal.invariant-loop-number
+invariant-loop-number l = record {
   after : l.at ≤ l.node;
   there : l.node < size l.term;
   order : l.node ≤ l.last;
-  followed : (w : IsWellFormed (plain_system l.rules)) (o : IsOrthogonal (plain_system l.rules)) → IsFollowed (plain_system l.rules) w o (nth_subtree l.term l.at) (nth_subtree l.term l.node) (l.last - l.node) (l.node - l.at);
+  followed : (values : Values) (w : IsWellFormed (system_of values l.rules)) (o : IsOrthogonal (system_of values l.rules)) → IsFollowed (system_of values l.rules) w o (nth_subtree l.term l.at) (nth_subtree l.term l.node) (l.last - l.node) (l.node - l.at);
 }
 
-abbrev pub decreases-loop-equation : goal.decreases-loop-equation
-decreases-loop-equation l = size l.term - l.node
+abbrev pub decreases-loop-number : goal.decreases-loop-number
+decreases-loop-number l = size l.term - l.node

@@ -2,4 +2,4 @@ use Rattle.orthogonal_laws.proofs.RunLaws as laws
 use Rattle.orthogonal_laws.proofs.laws.convertible_meet.Goals as goal
 
 pub returns : goal.returns
-returns g c = λ system w o. laws.convertible_meet system w o
+returns g c = λ system lawful. laws.convertible_meet system lawful.well_formed lawful.orthogonal

@@ -2,4 +2,4 @@ use Rattle.orthogonal_laws.proofs.NextLaws as laws
 use Rattle.orthogonal_laws.proofs.laws.next_is_marked.Goals as goal
 
 pub returns : goal.returns
-returns g c = λ system w o. laws.next_is_marked system w o
+returns g c = λ system lawful. laws.next_is_marked system lawful.well_formed lawful.orthogonal

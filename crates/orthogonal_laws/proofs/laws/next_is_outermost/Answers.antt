@@ -4,9 +4,9 @@ use Rattle.orthogonal_laws.proofs.laws.next_is_outermost.Goals as goal
 
 pub returns : goal.returns
 returns g c = record {
-  outermost = λ system w o. laws.next_outer system w o;
-  found = λ system w o. laws.normal_or_next_redex system w o;
-  redex_left = λ system w o. laws.next_not_normal system w o;
-  none = λ system w o t. (deciding.no_next_redex-normal system w o t, deciding.normal-no_next_redex system w o t);
-  one = λ system w o. laws.next_one system w o;
+  outermost = λ system lawful. laws.next_outer system lawful.well_formed lawful.orthogonal;
+  found = λ system lawful. laws.normal_or_next_redex system lawful.well_formed lawful.orthogonal;
+  redex_left = λ system lawful. laws.next_not_normal system lawful.well_formed lawful.orthogonal;
+  none = λ system lawful t. (deciding.no_next_redex-normal system lawful.well_formed lawful.orthogonal t, deciding.normal-no_next_redex system lawful.well_formed lawful.orthogonal t);
+  one = λ system lawful. laws.next_one system lawful.well_formed lawful.orthogonal;
 }

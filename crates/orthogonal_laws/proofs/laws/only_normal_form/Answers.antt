@@ -1,10 +1,11 @@
-use Rattle.eq_base.specs.Rules.{system_of}
+use Rattle.symbol_table.specs.Reading.{read_system}
+use Rattle.orthogonal_laws.proofs.ReadSystems.{read_lawful}
 use Rattle.orthogonal_laws.proofs.RunLaws as laws
-use Rattle.orthogonal_laws.proofs.RegularLists.{regular_orthogonal, regular_well_formed}
 use Rattle.orthogonal_laws.proofs.laws.only_normal_form.Goals as goal
 
-pub returns-clause-one_run : goal.returns-clause-one_run
-returns-clause-one_run c = λ value_of es r reads. laws.one_run (system_of value_of es) (regular_well_formed value_of es r reads) (regular_orthogonal value_of es r)
-
-pub returns-clause-one_end : goal.returns-clause-one_end
-returns-clause-one_end c = λ value_of es r reads. laws.one_end (system_of value_of es) (regular_well_formed value_of es r reads) (regular_orthogonal value_of es r)
+pub returns : goal.returns
+returns c = record {
+  found = λ table es regular. let lawful = read_lawful table es regular in laws.run_found (read_system table es) lawful.well_formed lawful.orthogonal;
+  one_run = λ table es regular. let lawful = read_lawful table es regular in laws.one_run (read_system table es) lawful.well_formed lawful.orthogonal;
+  one_end = λ table es regular. let lawful = read_lawful table es regular in laws.one_end (read_system table es) lawful.well_formed lawful.orthogonal;
+}

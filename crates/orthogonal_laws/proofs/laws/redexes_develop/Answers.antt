@@ -4,6 +4,6 @@ use Rattle.orthogonal_laws.proofs.laws.redexes_develop.Goals as goal
 
 pub returns : goal.returns
 returns g c = record {
-  one = λ system w o t u v m n d e same. development_determined system w o t u v m n d e same;
-  found = λ system w o. laws.redexes_develop system w o;
+  one = λ system lawful t u v m n d e same. development_determined system lawful.well_formed lawful.orthogonal t u v m n d e same;
+  found = λ system lawful. laws.redexes_develop system lawful.well_formed lawful.orthogonal;
 }

@@ -3,6 +3,7 @@ use Rattle.orthogonal_laws.proofs.laws.regular_is_orthogonal.Goals as goal
 
 pub returns : goal.returns
 returns c = record {
-  well_formed = λ value_of equations regular reads. laws.regular_well_formed value_of equations regular reads;
-  orthogonal = λ value_of equations regular. laws.regular_orthogonal value_of equations regular;
+  constants = λ value_of equations regular. laws.reads_constants value_of equations regular;
+  lawful = λ value_of equations regular.
+      record { well_formed = laws.regular_well_formed value_of equations regular; orthogonal = laws.regular_orthogonal value_of equations regular };
 }

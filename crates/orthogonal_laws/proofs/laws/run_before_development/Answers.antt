@@ -2,4 +2,4 @@ use Rattle.orthogonal_laws.proofs.RunLaws as laws
 use Rattle.orthogonal_laws.proofs.laws.run_before_development.Goals as goal
 
 pub returns : goal.returns
-returns g c = λ system w o. laws.run_before_development system w o
+returns g c = λ system lawful. laws.run_before_development system lawful.well_formed lawful.orthogonal

@@ -3,7 +3,7 @@ use Rattle.orthogonal_laws.proofs.laws.run_finds.Goals as goal
 
 pub returns : goal.returns
 returns g c = record {
-  found = λ system w o. laws.run_found system w o;
-  one_run = λ system w o. laws.one_run system w o;
-  one_end = λ system w o. laws.one_end system w o;
+  found = λ system lawful. laws.run_found system lawful.well_formed lawful.orthogonal;
+  one_run = λ system lawful. laws.one_run system lawful.well_formed lawful.orthogonal;
+  one_end = λ system lawful. laws.one_end system lawful.well_formed lawful.orthogonal;
 }

@@ -1,18 +1,23 @@
-use Rattle.std.proofs.Common.{arith, below_more, subst, ◌≡◌, ◌-◌}
+use Rattle.std.proofs.Common.{None, arith, subst, ◌≡◌, ◌-◌}
 use Rattle.eq_base.specs.Tree.{nth_subtree}
-use Rattle.orthogonal_laws.proofs.Nexts.{redex_from_match}
-use Rattle.orthogonal_laws.proofs.Failures.{failing_no_redex, fails_none, fails_more, fails_all, FailsSoFar}
+use Rattle.orthogonal_laws.proofs.Failures.{failing_not_met, fails_none, fails_more, fails_all, FailsSoFar}
+use Rattle.orthogonal_laws.proofs.RegularLists.{left_linear}
 use Rattle.orthogonal_laws.proofs.matching.look_at.Goals as goal
 
 pub loop-equation-init : goal.loop-equation-init
 loop-equation-init c =
     let e : 0 ≡ c.args.at - c.args.at = omega arith in
-    record { past = omega arith; first = λ k lt r. absurd (omega arith); failures = subst (λ z. FailsSoFar c.args.rules.now 0 (nth_subtree c.args.term.now c.args.at) z) e (fails_none c.args.rules.now (nth_subtree c.args.term.now c.args.at)) }
+    record { past = omega arith; failures = subst (λ z. FailsSoFar c.args.rules.now 0 (nth_subtree c.args.term.now c.args.at) z) e (fails_none c.args.rules.now (nth_subtree c.args.term.now c.args.at)) }
+
+pub first_mismatch-requires-clause-linear : goal.first_mismatch-requires-clause-linear
+first_mismatch-requires-clause-linear c = left_linear (λ op t. None) c.args.rules.now c.requires.regular c.loop-equation.equation c.equation.result.now c.equation.ensures
 
 pub returns-in-None : goal.returns-in-None
 returns-in-None c = record {
-  redex = redex_from_match c.args.rules.now c.loop-equation.equation c.equation.result.now c.equation.ensures _ c.requires.plain (c.in-None.ensures);
-  first = c.loop-equation.invariant.first;
+  equation = c.equation.result.now;
+  listed = c.equation.ensures;
+  met = c.in-None.ensures;
+  first = λ k e lt there i. let f = c.loop-equation.invariant.failures.each k e lt there in failing_not_met e.left (nth_subtree c.args.term.now c.args.at) f.0 f.1 i;
 }
 
 pub loop-equation-preserved : goal.loop-equation-preserved
@@ -21,7 +26,6 @@ loop-equation-preserved c =
     let i = c.loop-equation.invariant in
     record {
       past = omega arith;
-      first = below_more _ _ i.first (failing_no_redex c.args.rules.now c.loop-equation.equation c.equation.result.now c.equation.ensures _ _ fails.1);
       failures = fails_more c.args.rules.now c.loop-equation.equation c.equation.result.now c.equation.ensures (nth_subtree c.args.term.now c.args.at) _ _ _ i.failures fails.1 (omega (arith, fails.0));
     }
 

@@ -1,10 +1,12 @@
 use Rattle.std.proofs.Common.{◌≡◌, ◌+◌, ◌-◌, Some, arith, refl, sym, ap, ◌∙◌}
 use Rattle.eq_base.specs.Tree.{size, head_of, nth_subtree}
 use Rattle.eq_base.specs.Pattern.{fixed}
-use Rattle.eq_base.specs.Cells.{root_cell, variable_in}
+use Rattle.eq_base.specs.Cells.{variable_in}
 use Rattle.eq_base.specs.declared.head.Head as heads
 use Rattle.eq_base.proofs.Trees.{end_within}
 use Rattle.regularity.specs.declared.facing.Facing.TheVariants as facing
+use Rattle.regularity.specs.Occurrences.{variable_of}
+use Rattle.regularity.proofs.Occurrences.{variable_at_root}
 use Rattle.regularity.proofs.Facings.{faced, passed}
 use Rattle.regularity.proofs.Finding.{find_start, find_there, find_small, find_no_clash, find_here, find_inside, find_down, find_no_variable, find_past_own, find_past_other, other_no_head, head_of_root, no_head, same_variable, other_variable, some_size}
 use Rattle.regularity.proofs.merge.find.Goals as goal
@@ -20,7 +22,7 @@ prove-unreachable-requires c =
 
 pub returns-then-eq-clause-value : goal.returns-then-eq-clause-value
 returns-then-eq-clause-value c =
-    let own : variable_in (root_cell (nth_subtree c.args.left.now c.loop-at.at)) ≡ Some c.args.variable = ap variable_in (sym c.cell-cell.ensures.value) ∙ sym c.variable.ensures ∙ same_variable c.variable.result c.args.variable c.if-eq.ensures in
+    let own : variable_of (head_of (nth_subtree c.args.left.now c.loop-at.at)) ≡ Some c.args.variable = sym (variable_at_root (nth_subtree c.args.left.now c.loop-at.at)) ∙ ap variable_in (sym c.cell-cell.ensures.value) ∙ sym c.variable.ensures ∙ same_variable c.variable.result c.args.variable c.if-eq.ensures in
     find_here c.args.left.now c.args.other.now c.args.variable c.requires.merge c.loop-at.at c.loop-at.beside c.loop-at.name c.loop-at.invariant (omega arith) own
 
 pub unreachable-requires : goal.unreachable-requires
@@ -36,7 +38,7 @@ loop-at-preserved-in-SameHead c =
     let u = nth_subtree c.args.other.now c.loop-at.beside in
     find_down c.args.left.now c.args.other.now c.args.variable c.requires.merge c.loop-at.at c.loop-at.beside c.loop-at.name c.loop-at.invariant (omega arith)
     (faced s u _ _ _ facing.SameHead c.cell-cell.ensures.value c.cell.ensures.value c.in-SameHead.is c.facing_of.ensures)
-    (λ own. other_variable c.variable.result c.args.variable c.if-eq.ensures (c.variable.ensures ∙ ap variable_in c.cell-cell.ensures.value ∙ own))
+    (λ own. other_variable c.variable.result c.args.variable c.if-eq.ensures (c.variable.ensures ∙ ap variable_in c.cell-cell.ensures.value ∙ variable_at_root (nth_subtree c.args.left.now c.loop-at.at) ∙ own))
 
 pub first_occurrence-own-requires-clause-end : goal.first_occurrence-own-requires-clause-end
 first_occurrence-own-requires-clause-end c = omega (arith, c.end_of-end.ensures, end_within c.args.left.now c.loop-at.at (omega arith))
@@ -82,4 +84,4 @@ loop-at-preserved c =
     let wide : c.loop-at.name + (c.end_of-other_end.result - c.loop-at.beside) ≡ c.loop-at.name + size u = omega (arith, c.end_of-other_end.ensures) in
     rw (wide, c.end_of-end.ensures, c.end_of-other_end.ensures)
     (find_past_other c.args.left.now c.args.other.now c.args.variable c.requires.merge c.loop-at.at c.loop-at.beside c.loop-at.name c.loop-at.invariant (omega arith) either
-    (find_no_variable c.args.left.now c.args.other.now c.args.variable c.requires.merge c.loop-at.at c.loop-at.beside c.loop-at.name c.loop-at.invariant (omega arith) none (λ own. other_variable c.variable.result c.args.variable c.if-eq.ensures (c.variable.ensures ∙ ap variable_in c.cell-cell.ensures.value ∙ own))) none)
+    (find_no_variable c.args.left.now c.args.other.now c.args.variable c.requires.merge c.loop-at.at c.loop-at.beside c.loop-at.name c.loop-at.invariant (omega arith) none (λ own. other_variable c.variable.result c.args.variable c.if-eq.ensures (c.variable.ensures ∙ ap variable_in c.cell-cell.ensures.value ∙ variable_at_root (nth_subtree c.args.left.now c.loop-at.at) ∙ own))) none)

@@ -2,8 +2,9 @@ use Rattle.std.proofs.Common.{◌≡◌, ◌+◌, ◌-◌, arith, refl, sym, ap,
 use Rattle.eq_base.specs.Tree.{size, nth_subtree}
 use Rattle.eq_base.specs.Cells.{variable_in}
 use Rattle.eq_base.proofs.Trees.{end_within}
-use Rattle.regularity.specs.Single.{OccursAt}
+use Rattle.regularity.specs.Occurrences.{OccursAt}
 use Rattle.regularity.specs.Merge.{part_of_merge}
+use Rattle.regularity.proofs.Occurrences.{variable_at_root}
 use Rattle.regularity.proofs.Readings.{reads_start, reads_end, inside, part_there, cell_differs, cell_on, part_differs, part_on}
 use Rattle.regularity.proofs.merge.reads_as.Goals as goal
 use Rattle.regularity.proofs.merge.reads_as.Goals.{In-Some}
@@ -25,7 +26,7 @@ overflow_add-here-in-Some c = omega (arith, c.requires.name, c.loop-i.invariant.
 occurs : (c : In-Some) → OccursAt c.args.right.now (c.args.at + c.loop-i.i) c.in-Some.variable
 occurs c = record {
   there = omega (arith, c.end_of-end.ensures, end_within c.args.right.now c.args.at c.requires.at);
-  is = ap variable_in (sym c.cell-cell.ensures.value) ∙ sym c.variable.ensures ∙ c.in-Some.is;
+  is = sym (variable_at_root (nth_subtree c.args.right.now (c.args.at + c.loop-i.i))) ∙ ap variable_in (sym c.cell-cell.ensures.value) ∙ sym c.variable.ensures ∙ c.in-Some.is;
 }
 
 pub find-requires-clause-occurs : goal.find-requires-clause-occurs

@@ -1,16 +1,18 @@
 use Rattle.std.proofs.Common.{◌≡◌, Some, arith, refl, sym, ap, ◌∙◌}
-use Rattle.eq_base.specs.Tree.{nth_subtree}
-use Rattle.eq_base.specs.Cells.{root_cell, variable_in}
+use Rattle.eq_base.specs.Tree.{head_of, nth_subtree}
+use Rattle.eq_base.specs.Cells.{variable_in}
+use Rattle.regularity.specs.Occurrences.{variable_of}
+use Rattle.regularity.proofs.Occurrences.{variable_at_root}
 use Rattle.regularity.proofs.Finding.{fill-variable}
 use Rattle.regularity.proofs.Readings.{rights_start, rights_there, rights_end, rights_differ, rights_pass, rights_cell_differs, rights_cell_on, can_merge_back}
 use Rattle.regularity.proofs.merge.reads_same.Goals as goal
 use Rattle.regularity.proofs.merge.reads_same.Goals.{In-Some, In-Some-variable}
 
-variable_here : (c : In-Some) → variable_in (root_cell (nth_subtree c.args.right.now c.loop-at.at)) ≡ Some c.in-Some.variable
-variable_here c = ap variable_in (sym c.cell-cell.ensures.value) ∙ sym c.variable.ensures ∙ c.in-Some.is
+variable_here : (c : In-Some) → variable_of (head_of (nth_subtree c.args.right.now c.loop-at.at)) ≡ Some c.in-Some.variable
+variable_here c = sym (variable_at_root (nth_subtree c.args.right.now c.loop-at.at)) ∙ ap variable_in (sym c.cell-cell.ensures.value) ∙ sym c.variable.ensures ∙ c.in-Some.is
 
-variable_beside : (c : In-Some-variable) → variable_in (root_cell (nth_subtree c.args.other_right.now c.loop-at.beside)) ≡ Some c.in-Some-variable.variable
-variable_beside c = ap variable_in (sym c.cell-other_cell.ensures.value) ∙ sym c.variable-in_default.ensures ∙ c.in-Some-variable.is
+variable_beside : (c : In-Some-variable) → variable_of (head_of (nth_subtree c.args.other_right.now c.loop-at.beside)) ≡ Some c.in-Some-variable.variable
+variable_beside c = sym (variable_at_root (nth_subtree c.args.other_right.now c.loop-at.beside)) ∙ ap variable_in (sym c.cell-other_cell.ensures.value) ∙ sym c.variable-in_default.ensures ∙ c.in-Some-variable.is
 
 pub loop-at-init : goal.loop-at-init
 loop-at-init c = rights_start c.args.left.now c.args.right.now c.args.other.now c.args.other_right.now
@@ -21,7 +23,7 @@ prove-unreachable-requires c =
     omega arith
 
 pub find-part-requires-clause-occurs : goal.find-part-requires-clause-occurs
-find-part-requires-clause-occurs c = c.requires.right c.loop-at.at c.in-Some.variable (record { there = omega arith; is = ap variable_in (sym c.cell-cell.ensures.value) ∙ sym c.variable.ensures ∙ c.in-Some.is })
+find-part-requires-clause-occurs c = c.requires.right c.loop-at.at c.in-Some.variable (record { there = omega arith; is = variable_here (goal.at.find-part-requires-clause-occurs c).In-Some })
 
 pub reads_as-requires-clause-merge : goal.reads_as-requires-clause-merge
 reads_as-requires-clause-merge c = can_merge_back c.args.left.now c.args.other.now c.requires.merge
@@ -47,7 +49,7 @@ pub find-part-requires-in-Some-variable-clause-merge : goal.find-part-requires-i
 find-part-requires-in-Some-variable-clause-merge c = can_merge_back c.args.left.now c.args.other.now c.requires.merge
 
 pub find-part-requires-in-Some-variable-clause-occurs : goal.find-part-requires-in-Some-variable-clause-occurs
-find-part-requires-in-Some-variable-clause-occurs c = c.requires.other_right c.loop-at.beside c.in-Some-variable.variable (record { there = rights_there c.args.left.now c.args.right.now c.args.other.now c.args.other_right.now c.loop-at.at c.loop-at.beside c.loop-at.invariant (omega arith); is = (ap variable_in (sym c.cell-other_cell.ensures.value) ∙ sym c.variable-in_default.ensures ∙ c.in-Some-variable.is) })
+find-part-requires-in-Some-variable-clause-occurs c = c.requires.other_right c.loop-at.beside c.in-Some-variable.variable (record { there = rights_there c.args.left.now c.args.right.now c.args.other.now c.args.other_right.now c.loop-at.at c.loop-at.beside c.loop-at.invariant (omega arith); is = variable_beside (goal.at.find-part-requires-in-Some-variable-clause-occurs c).In-Some-variable })
 
 pub returns-then-not-reads_as-2 : goal.returns-then-not-reads_as-2
 returns-then-not-reads_as-2 c =

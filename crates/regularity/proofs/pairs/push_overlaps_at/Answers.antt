@@ -2,7 +2,8 @@ use Rattle.std.proofs.Common.{arith, sym, ap, ◌∙◌, subst}
 use Rattle.eq_base.specs.Tree.{nth_subtree}
 use Rattle.eq_base.specs.Pattern.{IsTested}
 use Rattle.eq_base.specs.Cells.{kind_of}
-use Rattle.regularity.specs.Violations.{IsTestedPlace, IsOfTwo}
+use Rattle.regularity.specs.Occurrences.{IsTestedPlace}
+use Rattle.regularity.specs.Violations.{IsOfTwo}
 use Rattle.regularity.proofs.Facings.{kind_of-root_cell}
 use Rattle.regularity.proofs.Listed.{well_formed_at, agree_at_part}
 use Rattle.regularity.proofs.Order.{lists_found, lists_missed}

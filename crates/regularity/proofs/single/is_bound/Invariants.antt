@@ -1,5 +1,5 @@
 use Rattle.std.proofs.Common.{ℕ, ◌<◌}
-use Rattle.regularity.specs.Single.{IsUnbound}
+use Rattle.regularity.specs.Occurrences.{IsUnbound}
 use Rattle.regularity.proofs.single.is_bound.Given as goal
 
 abbrev pub invariant-loop-place : goal.invariant-loop-place

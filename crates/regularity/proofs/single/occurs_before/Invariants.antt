@@ -1,5 +1,5 @@
 use Rattle.std.proofs.Common.{ℕ, ◌<◌}
-use Rattle.regularity.specs.Single.{OccursAt}
+use Rattle.regularity.specs.Occurrences.{OccursAt}
 use Rattle.regularity.proofs.single.occurs_before.Given as goal
 
 abbrev pub invariant-loop-at : goal.invariant-loop-at

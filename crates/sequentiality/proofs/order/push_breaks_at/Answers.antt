@@ -3,7 +3,7 @@ use Rattle.eq_base.specs.Tree.{nth_subtree}
 use Rattle.regularity.specs.Listing.{ListsBefore}
 use Rattle.eq_base.specs.Pattern.{IsTested}
 use Rattle.eq_base.specs.Cells.{kind_of}
-use Rattle.regularity.specs.Violations.{IsTestedPlace}
+use Rattle.regularity.specs.Occurrences.{IsTestedPlace}
 use Rattle.regularity.proofs.Facings.{kind_of-root_cell}
 use Rattle.regularity.proofs.Listed.{well_formed_at, agree_at_part}
 use Rattle.regularity.proofs.Order.{lists_found, lists_missed}

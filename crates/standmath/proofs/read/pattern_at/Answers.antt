@@ -1,6 +1,9 @@
 use Rattle.std.proofs.Common.{◌∙◌, ap, map}
-use Rattle.standmath.specs.Mentions.{seen}
-use Rattle.standmath.proofs.Meanings.{means_written}
+use Rattle.symbol_table.specs.Table.{names_of}
+use Rattle.symbol_table.specs.Reading.{read_pattern}
+use Rattle.written_terms.specs.Mentions.{seen}
+use Rattle.written_terms.proofs.Meanings.{means_written}
+use Rattle.standmath.specs.Notation.{standmath}
 use Rattle.standmath.proofs.read.pattern_at.Goals as goal
 
 pub returns-clause-answer : goal.returns-clause-answer
@@ -12,5 +15,5 @@ returns-clause-answer c =
       lexemes = m.lexemes;
       reads = m.reads;
       spelled = m.spelled;
-      means = means_written c.pattern_of.new.symbols c.args.variables.now m.written c.in_ok-pattern.pattern (map (seen text) c.deref.result.now) (ap (map (seen text)) c.deref.ensures.value ∙ m.outlined) c.in_ok-pattern.ensures.ok;
+      means = means_written standmath (names_of c.args.symbols.now) c.args.variables.now m.written (read_pattern c.pattern_of.new.symbols c.in_ok-pattern.pattern) (map (seen text) c.deref.result.now) (ap (map (seen text)) c.deref.ensures.value ∙ m.outlined) c.in_ok-pattern.ensures.ok;
     }

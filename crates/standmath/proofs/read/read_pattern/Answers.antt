@@ -1,7 +1,8 @@
 use Rattle.standmath.specs.Refusing.{IsPatternAt}
-use Rattle.standmath.proofs.Answering.{one_answer_as}
+use Rattle.symbol_table.specs.Table.{names_of}
+use Rattle.written_terms.proofs.Answering.{one_answer_as}
 use Rattle.standmath.proofs.OneReading.{one_pattern_at}
 use Rattle.standmath.proofs.read.read_pattern.Goals as goal
 
 pub returns-clause-only : goal.returns-clause-only
-returns-clause-only c = λ one distinct other is. one_answer_as (IsPatternAt c.pattern_at.new.symbols c.args.variables.now c.args.text.now c.args.at) (one_pattern_at c.pattern_at.new.symbols one c.args.text.now c.args.at c.args.variables.now distinct) _ other c.pattern_at.ensures.answer is
+returns-clause-only c = λ other is. one_answer_as (IsPatternAt (names_of c.args.symbols.now) c.args.variables.now c.args.text.now c.args.at) (one_pattern_at (names_of c.args.symbols.now) c.has_one_number_each.ensures.distinct.names c.args.text.now c.args.at c.args.variables.now c.has_one_number_each-2.ensures) _ other c.pattern_at.ensures.answer is

@@ -1,7 +1,8 @@
 use Rattle.standmath.specs.Refusing.{IsTermAt}
-use Rattle.standmath.proofs.Answering.{one_answer_as}
+use Rattle.symbol_table.specs.Table.{names_of}
+use Rattle.written_terms.proofs.Answering.{one_answer_as}
 use Rattle.standmath.proofs.OneReading.{one_term_at}
 use Rattle.standmath.proofs.read.read_term.Goals as goal
 
 pub returns-clause-only : goal.returns-clause-only
-returns-clause-only c = λ one other is. one_answer_as (IsTermAt c.term_at.new.symbols c.args.text.now c.args.at) (one_term_at c.term_at.new.symbols one c.args.text.now c.args.at) _ other c.term_at.ensures.answer is
+returns-clause-only c = λ other is. one_answer_as (IsTermAt (names_of c.args.symbols.now) c.args.text.now c.args.at) (one_term_at (names_of c.args.symbols.now) c.has_one_number_each.ensures.distinct.names c.args.text.now c.args.at) _ other c.term_at.ensures.answer is

@@ -5,15 +5,18 @@ use Rattle.term_lex.specs.declared.token.TokenKind.TheVariants.{Dot}
 use Rattle.term_lex.specs.Lexemes.{IsFirstFault, Plainly}
 use Rattle.term_lex.proofs.Readings.{scans_within, scans_append}
 use Rattle.term_lex.proofs.PlainAnswers.{kind_part, then_err, then_ok}
-use Rattle.standmath.specs.declared.error.ReadError.TheVariants.{Refused}
+use Rattle.symbol_table.specs.Table.{names_of}
+use Rattle.symbol_table.specs.Reading.{read}
+use Rattle.written_terms.specs.declared.error.ReadError.TheVariants.{Refused}
 use Rattle.standmath.specs.Terms.{IsSomeTerm}
-use Rattle.standmath.specs.Meaning.{outline}
-use Rattle.standmath.specs.Refusing.{IsFirstRefused, RefusesTerm, IsTermAt}
-use Rattle.standmath.specs.Answering.{AnswersRight}
-use Rattle.standmath.specs.Mentions.{seen, IsMention}
+use Rattle.standmath.specs.Notation.{outline, standmath}
+use Rattle.written_terms.specs.Refusing.{IsFirstRefused}
+use Rattle.standmath.specs.Refusing.{RefusesTerm, IsTermAt}
+use Rattle.written_terms.specs.Answering.{AnswersRight, as_read}
+use Rattle.written_terms.specs.Mentions.{seen, IsMention}
 use Rattle.standmath.proofs.Terms.{term_part}
-use Rattle.standmath.proofs.Answering.{refused_as}
-use Rattle.standmath.proofs.Meanings.{means_written}
+use Rattle.written_terms.proofs.Answering.{refused_as}
+use Rattle.written_terms.proofs.Meanings.{means_written}
 use Rattle.standmath.proofs.read.term_at.Goals as goal
 
 pub skip_dot-requires : goal.skip_dot-requires
@@ -29,35 +32,35 @@ returns-clause-answer c =
       lexemes = m.lexemes ++ dot.0;
       scanned = scans_append text c.args.at m.lexemes dot.0 c.in_ok-mentions.end c.in_ok-end.end m.reads.scanned dot.1.scanned;
       spelled = (m.lexemes, dot.0, refl, m.spelled, dot.1.sentence);
-      means = means_written c.term_of.new.symbols [] m.written (map_heads fixed c.in_ok-term.term) (map (seen text) c.deref.result.now) (ap (map (seen text)) c.deref.ensures.value ∙ m.outlined) c.in_ok-term.ensures.ok;
+      means = means_written standmath (names_of c.args.symbols.now) [] m.written (map_heads fixed (read c.term_of.new.symbols c.in_ok-term.term)) (map (seen text) c.deref.result.now) (ap (map (seen text)) c.deref.ensures.value ∙ m.outlined) c.in_ok-term.ensures.ok;
     }
 
 -- a fault of the term
 pub returns-in_err-mentions-clause-answer : goal.returns-in_err-mentions-clause-answer
 returns-in_err-mentions-clause-answer c =
-    let table = c.args.symbols.now in
+    let table = names_of c.args.symbols.now in
     let text = c.args.text.now in
     let at = c.args.at in
     let same : c.from_residual.result ≡ Err c.in_err-mentions.field-0.0 = search rules in
     let why = refused_as (IsFirstFault Plainly IsSomeTerm text at) (RefusesTerm table text at) (λ f h. inl (then_err term_part (kind_part Dot) refl f h)) c.in_err-mentions.field-0.0 c.in_err-mentions.ensures.err in
-    subst (AnswersRight (IsTermAt table text at)) (sym same) why
+    subst (λ r. AnswersRight (IsTermAt table text at) (as_read (read c.args.symbols.now) r)) (sym same) why
 
 -- a fault where the dot should be
 pub returns-in_err-end-clause-answer : goal.returns-in_err-end-clause-answer
 returns-in_err-end-clause-answer c =
-    let table = c.args.symbols.now in
+    let table = names_of c.args.symbols.now in
     let text = c.args.text.now in
     let at = c.args.at in
     let f = c.in_err-end.field-0.0 in
     let m = c.in_ok-mentions.ensures.ok in
     let same : c.from_residual-in_err-end.result ≡ Err (Refused f) = search rules in
     let why : RefusesTerm table text at f = inl (then_ok term_part (kind_part Dot) refl c.in_ok-mentions.end (m.lexemes, m.reads) (Err f) c.in_err-end.ensures) in
-    subst (AnswersRight (IsTermAt table text at)) (sym same) why
+    subst (λ r. AnswersRight (IsTermAt table text at) (as_read (read c.args.symbols.now) r)) (sym same) why
 
 -- a name or a literal that means nothing
 pub returns-in_err-term-clause-answer : goal.returns-in_err-term-clause-answer
 returns-in_err-term-clause-answer c =
-    let table = c.term_of.new.symbols in
+    let table = (names_of c.args.symbols.now) in
     let text = c.args.text.now in
     let at = c.args.at in
     let m = c.in_ok-mentions.ensures.ok in
@@ -75,7 +78,7 @@ returns-in_err-term-clause-answer c =
       refused = subst (λ l. IsFirstRefused table [] l f) outlined h;
     }))
     c.in_err-term.field-0.0 c.in_err-term.ensures.refused in
-    subst (AnswersRight (IsTermAt table text at)) (sym same) why
+    subst (λ r. AnswersRight (IsTermAt table text at) (as_read (read c.term_of.new.symbols) r)) (sym same) why
 
 -- each of them stands in the text
 pub term_of-requires-clause-mentions : goal.term_of-requires-clause-mentions

@@ -1,7 +1,7 @@
 use Rattle.term_lex.specs.Lexemes.{IsAnswer}
 use Rattle.term_lex.proofs.Readings.{one_answer}
 use Rattle.standmath.specs.Terms.{IsSomeTerm}
-use Rattle.standmath.proofs.Answering.{one_answer_as}
+use Rattle.written_terms.proofs.Answering.{one_answer_as}
 use Rattle.standmath.proofs.scan.skip_term.Goals as goal
 
 pub returns-clause-only : goal.returns-clause-only

@@ -14,5 +14,5 @@ invariant-loop-i l = record {
   under_way : (operations : List Op) → IsUnderWay l.text (knowing l.initial.symbols l.variables operations) (condition_places [] (map condition l.conditions)) (knowing l.symbols l.variables operations) (condition_places (qualified_names (take l.i l.conditions)) (map condition (drop l.i l.conditions)));
   placed : ArePlaced l.text (condition_places (qualified_names (take l.i l.conditions)) (map condition (drop l.i l.conditions)));
   keeps : Keeps l.initial.symbols l.symbols;
-  conditions : Lasts (λ known. AreRelated (λ c t. TakesCondition l.text known c.variable c.restriction t) (map condition (take l.i l.conditions)) l.taken.items) l.symbols l.variables;
+  conditions : Lasts (λ known table. AreRelated (λ c t. TakesCondition l.text known table c.variable c.restriction t) (map condition (take l.i l.conditions)) l.taken.items) l.symbols l.variables;
 }

@@ -52,5 +52,5 @@ returns-clause-equation c = λ later operations k.
     record {
       left = c.in_ok-left.ensures.pattern later operations behind_left;
       right = c.in_ok-right.ensures.pattern later operations behind_right;
-      conditions = subst (λ cs. AreRelated (λ (w : Written) (t : TakenCondition). TakesCondition c.args.text.now (knowing later c.args.variables.now operations) w.variable w.restriction t) (map condition cs) c.in_ok-conditions.conditions.items) c.deref.ensures.value (c.in_ok-conditions.ensures.conditions later operations k);
+      conditions = subst (λ cs. AreRelated (λ (w : Written) (t : TakenCondition). TakesCondition c.args.text.now (knowing later c.args.variables.now operations) later w.variable w.restriction t) (map condition cs) c.in_ok-conditions.conditions.items) c.deref.ensures.value (c.in_ok-conditions.ensures.conditions later operations k);
     }

@@ -4,9 +4,10 @@ use Rattle.def_file.specs.Views.{sides, equation_item}
 use Rattle.def_file.specs.Names.{Operation, equation_places, item_places, TakesAll}
 use Rattle.def_file.specs.Naming.{IsTaking, knowing}
 use Rattle.def_file.specs.declared.naming.items.TakenItem.TheVariants as taking
+use Rattle.def_file.specs.AsRead.{equation_read, IsLiveWritten}
 use Rattle.def_file.specs.Definitions.{MeansEquation}
-use Rattle.def_file.specs.Taking.{TakesItem}
-use Rattle.def_file.proofs.Meant.{equation_means}
+use Rattle.def_file.specs.Taking.{TakesWritten, TakesItem}
+use Rattle.def_file.proofs.Meant.{equation_means, equation_live}
 use Rattle.std.proofs.lemmas.Result.{err_from_is_err_and}
 use Rattle.def_file.specs.declared.error.FileError.TheVariants.{NoMemory}
 use Rattle.def_file.proofs.Namings.{taking_refused}
@@ -44,6 +45,9 @@ pub returns-in_ok-written-in-Equates-clause-item : goal.returns-in_ok-written-in
 returns-in_ok-written-in-Equates-clause-item c = λ later operations k.
     let known = knowing later c.args.variables.now operations in
     let taken = c.in_ok-taken-in-Equates.ensures.equation later operations k in
-    let means = subst (MeansEquation c.args.text.now known (sides c.in-Equates.equation)) (sym c.in_ok-written-in-Equates.ensures) (equation_means c.args.text.now known (sides c.in-Equates.equation) c.in_ok-taken-in-Equates.taken taken) in
-    let answers = c.equation_fault-fault.ensures c.args.text.now known taken in
-    subst (λ (i : EquationItem). TakesItem c.args.text.now known c.args.before (equation_item i) (taking.Equates c.in_ok-written-in-Equates.written c.equation_fault-fault.result)) (sym c.in-Equates.is) (means, answers)
+    let answers = c.equation_fault-fault.ensures c.args.text.now known later taken in
+    let s = sides c.in-Equates.equation in
+    let means = subst (λ e. MeansEquation c.args.text.now known s (equation_read later e)) (sym c.in_ok-written-in-Equates.ensures) (equation_means c.args.text.now known later s c.in_ok-taken-in-Equates.taken taken) in
+    let live = subst (IsLiveWritten later) (sym c.in_ok-written-in-Equates.ensures) (equation_live c.args.text.now known later s c.in_ok-taken-in-Equates.taken taken) in
+    let written : TakesWritten c.args.text.now known later c.args.before s c.in_ok-written-in-Equates.written c.equation_fault-fault.result = record { means = means; live = live; limits = answers } in
+    subst (λ (i : EquationItem). TakesItem c.args.text.now known later c.args.before (equation_item i) (taking.Equates c.in_ok-written-in-Equates.written c.equation_fault-fault.result)) (sym c.in-Equates.is) written

@@ -11,10 +11,11 @@ use Rattle.def_file.specs.Naming.{IsPlaced, ArePlaced, knowing}
 use Rattle.def_file.specs.declared.naming.items.TakenItem.{TakenItem}
 use Rattle.def_file.specs.Trees.{EquationItem as WrittenItem}
 use Rattle.def_file.specs.Sides.{equation_of, all_limits, AnswersLimits}
+use Rattle.def_file.specs.AsRead.{numbered_read, AreLiveItems}
 use Rattle.def_file.specs.Definitions.{MeanItems}
 use Rattle.def_file.specs.Taking.{TakesItem, items_behind, equations_behind, fault_behind}
 use Rattle.def_file.proofs.Pairs.{map_next}
-use Rattle.def_file.proofs.Meant.{item_more, limits_more, count_more, few_more}
+use Rattle.def_file.proofs.Meant.{item_more, live_more, limits_more, count_more, few_more}
 use Rattle.def_file.proofs.Namings.{drop-next, all_split, none_taken, more_taken, one_refused, all_taken, taking_refused}
 use Rattle.def_file.proofs.naming.items.take_items.Goals as goal
 
@@ -40,7 +41,8 @@ loop-i-init c = record {
   keeps = keeps_refl _;
   few = omega arith;
   equations = refl;
-  items = λ later operations k. c.new.ensures.items;
+  items = λ later operations k. ap (map (numbered_read later)) c.new.ensures.items;
+  live = λ later operations k. subst (AreLiveItems later) (sym c.new.ensures.items) tt;
   limits = λ later operations k. tt;
 }
 
@@ -64,23 +66,27 @@ loop-i-preserved c = record {
   placed = (all_split (IsPlaced c.args.text.now) (item_places (equation_item c.index-items-i.result)) (places_of_items (drop (c.loop-i.i + 1) c.args.items.now)) (subst (ArePlaced c.args.text.now) (next_item c.args.items.now c.loop-i.i c.index-items-i.result c.index-items-i.is c.loop-i-test.true) c.loop-i.invariant.placed)).1;
   keeps = keeps_trans _ _ _ c.loop-i.invariant.keeps c.take_item.ensures.keeps;
   few = subst (λ n. n ≤ c.loop-i.i + 1) (sym c.in_ok-push.ensures.equations) (few_behind c.loop-i.taken.equations c.loop-i.i c.in_ok-next.next c.loop-i.invariant.few);
-  equations = c.in_ok-push.ensures.equations ∙ count_more c.args.text.now (knowing c.take_item.new.symbols c.args.variables.now []) c.loop-i.taken.equations (items_before c.args.items.now c.loop-i.i) (equation_item c.index-items-i.result) c.in_ok-next.next c.loop-i.invariant.equations (c.in_ok-next.ensures.item c.take_item.new.symbols [] (keeps_refl _)) ∙ ap (λ xs. length (flat_map equation_of xs)) (sym (map_next equation_item c.args.items.now c.loop-i.i c.index-items-i.result c.index-items-i.result c.index-items-i.is c.loop-i-test.true));
+  equations = c.in_ok-push.ensures.equations ∙ count_more c.args.text.now (knowing c.take_item.new.symbols c.args.variables.now []) c.take_item.new.symbols c.loop-i.taken.equations (items_before c.args.items.now c.loop-i.i) (equation_item c.index-items-i.result) c.in_ok-next.next c.loop-i.invariant.equations (c.in_ok-next.ensures.item c.take_item.new.symbols [] (keeps_refl _)) ∙ ap (λ xs. length (flat_map equation_of xs)) (sym (map_next equation_item c.args.items.now c.loop-i.i c.index-items-i.result c.index-items-i.result c.index-items-i.is c.loop-i-test.true));
   items = λ later operations k.
       let known = knowing later c.args.variables.now operations in
       let taken = c.in_ok-next.ensures.item later operations k in
       let before = c.loop-i.invariant.items later operations (keeps_trans _ _ _ c.take_item.ensures.keeps k) in
       let xs = items_before c.args.items.now c.loop-i.i in
-      let more = item_more c.args.text.now known 1 c.loop-i.taken.equations xs (equation_item c.index-items-i.result) c.loop-i.taken.items.items c.in_ok-next.next before taken in
-      let counted = subst (λ n. MeanItems c.args.text.now known 1 (xs ++ equation_item c.index-items-i.result ∷ []) (items_behind n c.loop-i.taken.items.items c.in_ok-next.next)) (number_of c.args.items.now c.loop-i.i c.loop-i-test.true) more in
-      let listed = subst (λ ys. MeanItems c.args.text.now known 1 ys (items_behind (c.loop-i.i + 1) c.loop-i.taken.items.items c.in_ok-next.next)) (sym (map_next equation_item c.args.items.now c.loop-i.i c.index-items-i.result c.index-items-i.result c.index-items-i.is c.loop-i-test.true)) counted in
-      subst (MeanItems c.args.text.now known 1 (items_before c.args.items.now (c.loop-i.i + 1))) (sym c.in_ok-push.ensures.items) listed;
+      let more = item_more c.args.text.now known later 1 c.loop-i.taken.equations xs (equation_item c.index-items-i.result) c.loop-i.taken.items.items c.in_ok-next.next before taken in
+      let counted = subst (λ n. MeanItems c.args.text.now known 1 (xs ++ equation_item c.index-items-i.result ∷ []) (map (numbered_read later) (items_behind n c.loop-i.taken.items.items c.in_ok-next.next))) (number_of c.args.items.now c.loop-i.i c.loop-i-test.true) more in
+      let listed = subst (λ ys. MeanItems c.args.text.now known 1 ys (map (numbered_read later) (items_behind (c.loop-i.i + 1) c.loop-i.taken.items.items c.in_ok-next.next))) (sym (map_next equation_item c.args.items.now c.loop-i.i c.index-items-i.result c.index-items-i.result c.index-items-i.is c.loop-i-test.true)) counted in
+      subst (λ is. MeanItems c.args.text.now known 1 (items_before c.args.items.now (c.loop-i.i + 1)) (map (numbered_read later) is)) (sym c.in_ok-push.ensures.items) listed;
+  live = λ later operations k.
+      let before = c.loop-i.invariant.live later operations (keeps_trans _ _ _ c.take_item.ensures.keeps k) in
+      subst (AreLiveItems later) (sym c.in_ok-push.ensures.items)
+      (live_more c.args.text.now (knowing later c.args.variables.now operations) later (c.loop-i.i + 1) c.loop-i.taken.equations (equation_item c.index-items-i.result) c.loop-i.taken.items.items c.in_ok-next.next before (c.in_ok-next.ensures.item later operations k));
   limits = λ later operations k.
       let known = knowing later c.args.variables.now operations in
       let xs = items_before c.args.items.now c.loop-i.i in
       let x = equation_item c.index-items-i.result in
-      let taken = subst (λ n. TakesItem c.args.text.now known n x c.in_ok-next.next) c.loop-i.invariant.equations (c.in_ok-next.ensures.item later operations k) in
+      let taken = subst (λ n. TakesItem c.args.text.now known later n x c.in_ok-next.next) c.loop-i.invariant.equations (c.in_ok-next.ensures.item later operations k) in
       let before = c.loop-i.invariant.limits later operations (keeps_trans _ _ _ c.take_item.ensures.keeps k) in
-      let more = limits_more c.args.text.now known xs x c.loop-i.taken.fault c.in_ok-next.next before taken in
+      let more = limits_more c.args.text.now known later xs x c.loop-i.taken.fault c.in_ok-next.next before taken in
       let listed = subst (λ ys. AnswersLimits c.args.text.now known (all_limits 0 (flat_map equation_of ys)) (fault_behind c.loop-i.taken.fault c.in_ok-next.next)) (sym (map_next equation_item c.args.items.now c.loop-i.i c.index-items-i.result c.index-items-i.result c.index-items-i.is c.loop-i-test.true)) more in
       subst (AnswersLimits c.args.text.now known (all_limits 0 (flat_map equation_of (items_before c.args.items.now (c.loop-i.i + 1))))) (sym c.in_ok-push.ensures.fault) listed;
 }
@@ -98,7 +104,7 @@ returns-in_err-push-clause-taking c =
     taking_refused c.args.text.now (knowing c.args.symbols.now c.args.variables.now c.args.operations.now.items) (knowing c.take_item.new.symbols c.args.variables.now c.take_item.new.operations.items) (places_of_items c.args.items.now) c.from_residual-in_err-push.result NoMemory same tt
 
 pub returns-clause-items : goal.returns-clause-items
-returns-clause-items c = λ later operations k. subst (λ xs. MeanItems c.args.text.now (knowing later c.args.variables.now operations) 1 (map equation_item xs) c.loop-i.taken.items.items) (take_all c.loop-i.i c.args.items.now c.loop-i-test.false) (c.loop-i.invariant.items later operations k)
+returns-clause-items c = λ later operations k. subst (λ xs. MeanItems c.args.text.now (knowing later c.args.variables.now operations) 1 (map equation_item xs) (map (numbered_read later) c.loop-i.taken.items.items)) (take_all c.loop-i.i c.args.items.now c.loop-i-test.false) (c.loop-i.invariant.items later operations k)
 
 pub returns-clause-limits : goal.returns-clause-limits
 returns-clause-limits c = λ later operations k. subst (λ xs. AnswersLimits c.args.text.now (knowing later c.args.variables.now operations) (all_limits 0 (flat_map equation_of (map equation_item xs))) c.loop-i.taken.fault) (take_all c.loop-i.i c.args.items.now c.loop-i-test.false) (c.loop-i.invariant.limits later operations k)

@@ -5,6 +5,7 @@ use Rattle.def_file.specs.Views.{equation_item}
 use Rattle.def_file.specs.Names.{item_places}
 use Rattle.def_file.specs.Naming.{ArePlaced, knowing}
 use Rattle.def_file.specs.Sides.{equation_of, all_limits, AnswersLimits}
+use Rattle.def_file.specs.AsRead.{numbered_read, AreLiveItems}
 use Rattle.def_file.specs.Definitions.{MeanItems}
 use Rattle.def_file.specs.Taking.{Lasts}
 use Rattle.def_file.proofs.Namings.{IsUnderWay}
@@ -17,6 +18,7 @@ invariant-loop-i l = record {
   keeps : Keeps l.initial.symbols l.symbols;
   few : l.taken.equations ≤ l.i;
   equations : l.taken.equations ≡ length (flat_map equation_of (map equation_item (take l.i l.items)));
-  items : Lasts (λ known. MeanItems l.text known 1 (map equation_item (take l.i l.items)) l.taken.items.items) l.symbols l.variables;
-  limits : Lasts (λ known. AnswersLimits l.text known (all_limits 0 (flat_map equation_of (map equation_item (take l.i l.items)))) l.taken.fault) l.symbols l.variables;
+  items : Lasts (λ known table. MeanItems l.text known 1 (map equation_item (take l.i l.items)) (map (numbered_read table) l.taken.items.items)) l.symbols l.variables;
+  live : Lasts (λ known table. AreLiveItems table l.taken.items.items) l.symbols l.variables;
+  limits : Lasts (λ known table. AnswersLimits l.text known (all_limits 0 (flat_map equation_of (map equation_item (take l.i l.items)))) l.taken.fault) l.symbols l.variables;
 }

@@ -5,6 +5,7 @@ use Rattle.std.specs.Option.{is_some}
 use Rattle.term_lex.specs.declared.fault.Fault.{Fault}
 use Rattle.def_file.specs.declared.tree.Condition.{Condition as Value}
 use Rattle.def_file.specs.declared.naming.conditions.TakenCondition.{TakenCondition}
+use Rattle.symbol_table.specs.Table.{Table}
 use Rattle.def_file.specs.Views.{condition, restriction}
 use Rattle.def_file.specs.Names.{Known}
 use Rattle.def_file.specs.Trees.{Condition}
@@ -27,12 +28,12 @@ all_at : (cs : List Value) → map (Cells 255) (flat_map alternatives_of (map co
 all_at [] = refl
 all_at (c ∷ cs) = map-append (Cells 255) (alternatives_in (restriction c.restriction)) (flat_map alternatives_of (map condition cs)) ∙ ap (λ l. limits_at c ++ l) (all_at cs)
 
-module _ (text : List ℕ) (known : Known) where
+module _ (text : List ℕ) (known : Known) (table : Table) where
   abbrev Taken : Condition → TakenCondition → Type 0
-  Taken c t = TakesCondition text known c.variable c.restriction t
+  Taken c t = TakesCondition text known table c.variable c.restriction t
 
   -- the choice of the condition with a number
-  choice_at : (cs : List Value) (ts : List TakenCondition) (i : ℕ) (c : Value) (t : TakenCondition) → c ≡ get_or cs i c → t ≡ get_or ts i t → i < length cs → AreRelated Taken (map condition cs) ts → TakesChoice text known (restriction c.restriction) t.choice
+  choice_at : (cs : List Value) (ts : List TakenCondition) (i : ℕ) (c : Value) (t : TakenCondition) → c ≡ get_or cs i c → t ≡ get_or ts i t → i < length cs → AreRelated Taken (map condition cs) ts → TakesChoice text known table (restriction c.restriction) t.choice
   choice_at cs ts i c t is is' lt related =
       let within : i < length (map condition cs) = simp length-map lt in
       let here : Taken (get_or (map condition cs) i (condition c)) (get_or ts i t) = related_at Taken (map condition cs) ts i (condition c) t within related in
@@ -40,8 +41,8 @@ module _ (text : List ℕ) (known : Known) where
       (subst (λ (x : Condition). Taken x t) named (subst (Taken (get_or (map condition cs) i (condition c))) (sym is') here)).choice
 
 pub returns-in_default : goal.returns-in_default
-returns-in_default c = λ text known related.
-    let same = length-related (Taken text known) (map condition c.args.conditions.now) c.args.taken.now related in
+returns-in_default c = λ text known table related.
+    let same = length-related (Taken text known table) (map condition c.args.conditions.now) c.args.taken.now related in
     absurd (omega (arith, same, length-map c.args.conditions.now condition, c.in_default.ensures.lookup.3, c.loop-i-test.true))
 
 -- the limits around those of a condition
@@ -58,16 +59,16 @@ limits_next text known cs i c is lt None none before here =
     subst (KeepsAll text known) (sym (all_at (take (i + 1) cs) ∙ flat_next limits_at cs i c c is lt)) (keeps_append text known (flat_map limits_at (take i cs)) (limits_at c) front here)
 
 pub returns : goal.returns
-returns c = λ text known related. subst (λ l. KeepsAll text known (map (Cells 255) (flat_map alternatives_of (map condition l)))) (take_all c.loop-i.i c.args.conditions.now c.loop-i-test.false) (c.loop-i.invariant text known related)
+returns c = λ text known table related. subst (λ l. KeepsAll text known (map (Cells 255) (flat_map alternatives_of (map condition l)))) (take_all c.loop-i.i c.args.conditions.now c.loop-i-test.false) (c.loop-i.invariant text known table related)
 
 pub returns-then-is_some : goal.returns-then-is_some
-returns-then-is_some c = λ text known related.
+returns-then-is_some c = λ text known table related.
     let some : is_some c.choice_fault-fault.result ≡ true = sym c.is_some.ensures ∙ c.if-is_some.true in
-    let choice = choice_at text known c.args.conditions.now c.args.taken.now c.loop-i.i c.index-conditions-i.result c.in-Some.next.now c.index-conditions-i.is c.in-Some.ensures.lookup.1 c.loop-i-test.true related in
-    limits_around text known c.args.conditions.now c.loop-i.i c.index-conditions-i.result c.index-conditions-i.is c.loop-i-test.true c.choice_fault-fault.result some (c.loop-i.invariant text known related) (c.choice_fault-fault.ensures text known choice)
+    let choice = choice_at text known table c.args.conditions.now c.args.taken.now c.loop-i.i c.index-conditions-i.result c.in-Some.next.now c.index-conditions-i.is c.in-Some.ensures.lookup.1 c.loop-i-test.true related in
+    limits_around text known c.args.conditions.now c.loop-i.i c.index-conditions-i.result c.index-conditions-i.is c.loop-i-test.true c.choice_fault-fault.result some (c.loop-i.invariant text known table related) (c.choice_fault-fault.ensures text known table choice)
 
 pub loop-i-preserved : goal.loop-i-preserved
-loop-i-preserved c = λ text known related.
+loop-i-preserved c = λ text known table related.
     let none : is_some c.choice_fault-fault.result ≡ false = sym c.is_some.ensures ∙ c.if-is_some.false in
-    let choice = choice_at text known c.args.conditions.now c.args.taken.now c.loop-i.i c.index-conditions-i.result c.in-Some.next.now c.index-conditions-i.is c.in-Some.ensures.lookup.1 c.loop-i-test.true related in
-    limits_next text known c.args.conditions.now c.loop-i.i c.index-conditions-i.result c.index-conditions-i.is c.loop-i-test.true c.choice_fault-fault.result none (c.loop-i.invariant text known related) (c.choice_fault-fault.ensures text known choice)
+    let choice = choice_at text known table c.args.conditions.now c.args.taken.now c.loop-i.i c.index-conditions-i.result c.in-Some.next.now c.index-conditions-i.is c.in-Some.ensures.lookup.1 c.loop-i-test.true related in
+    limits_next text known c.args.conditions.now c.loop-i.i c.index-conditions-i.result c.index-conditions-i.is c.loop-i-test.true c.choice_fault-fault.result none (c.loop-i.invariant text known table related) (c.choice_fault-fault.ensures text known table choice)

@@ -1,6 +1,7 @@
 use Rattle.std.proofs.Common.{ℕ, List, take, map}
 use Rattle.std.specs.List.{flat_map}
 use Rattle.def_file.specs.declared.naming.conditions.TakenCondition.{TakenCondition}
+use Rattle.symbol_table.specs.Table.{Table}
 use Rattle.def_file.specs.Views.{condition}
 use Rattle.def_file.specs.Names.{Known}
 use Rattle.def_file.specs.Trees.{Condition}
@@ -10,4 +11,4 @@ use Rattle.def_file.specs.Taking.{TakesCondition}
 use Rattle.def_file.proofs.naming.limits.conditions_fault.Given as goal
 
 abbrev pub invariant-loop-i : goal.invariant-loop-i
-invariant-loop-i l = (text : List ℕ) (known : Known) → AreRelated (λ (c : Condition) (t : TakenCondition). TakesCondition text known c.variable c.restriction t) (map condition l.conditions) l.taken → KeepsAll text known (map (Cells 255) (flat_map alternatives_of (map condition (take l.i l.conditions))))
+invariant-loop-i l = (text : List ℕ) (known : Known) (table : Table) → AreRelated (λ (c : Condition) (t : TakenCondition). TakesCondition text known table c.variable c.restriction t) (map condition l.conditions) l.taken → KeepsAll text known (map (Cells 255) (flat_map alternatives_of (map condition (take l.i l.conditions))))

@@ -1,6 +1,7 @@
 use Rattle.std.proofs.Common.{sym, ◌∙◌, ap, map}
 use Rattle.term_lex.specs.declared.token.TokenKind.TheVariants.{CloseRound}
-use Rattle.standmath.specs.Mentions.{met_kind, pair_of}
+use Rattle.written_terms.specs.Mentions.{pair_of}
+use Rattle.standmath.specs.Mentions.{met_kind}
 use Rattle.standmath.proofs.Counting.{popped}
 use Rattle.standmath.proofs.mentions.Mentions.take.Goals as goal
 

@@ -13,4 +13,4 @@ pub invariant_of-self-2 : goal.invariant_of-self-2
 invariant_of-self-2 c =
     let old : Table = table_of c.self.inside.arities.entries c.self.inside.classes.items c.self.inside.atoms c.self.inside.texts in
     subst (λ classes. IsTable (table_of c.self.inside.arities.entries classes c.self.inside.atoms c.self.inside.texts)) (sym c.in_ok-push.ensures.items)
-    (IsTable-with_class old c.in-Some.class c.self.invariant (λ truth. rw c.self.view_is (undeclared c truth)))
+    (IsTable-with_class old c.in-Some.class c.self.invariant (λ truth. subst (λ (t : Table). ¬ HasTruthName t) (sym c.self.view_is) (undeclared c truth)))

@@ -1,0 +1,4 @@
+mod Limits
+mod Lefts
+mod Operands
+mod Divisions

@@ -1,0 +1,5 @@
+use Rattle.orthogonal_laws.proofs.ReadSystems.{read_lawful}
+use Rattle.orthogonal_laws.proofs.laws.read_is_orthogonal.Goals as goal
+
+pub returns : goal.returns
+returns c = λ table equations regular. read_lawful table equations regular

@@ -1,0 +1,7 @@
+use Rattle.std.proofs.Common.{subst}
+use Rattle.orthogonal_laws.specs.Operations.{AreTruthsKnown}
+use Rattle.orthogonal_laws.proofs.samples.run_of.Goals as goal
+
+pub plain_run-requires-clause-truths : goal.plain_run-requires-clause-truths
+plain_run-requires-clause-truths c =
+    subst (λ es. AreTruthsKnown c.args.symbols.now es) c.rules-else-not-is_live_term.ensures.value (c.knows_truths.ensures c.if-not-knows_truths.false)
