@@ -11,8 +11,8 @@ use Rattle.term_lex.proofs.PlainAnswers.{not_begun, then_can, some_of_kind, of_k
 use Rattle.standmath.specs.Terms.{Constant}
 use Rattle.def_file.specs.declared.error.FileError.{FileError}
 use Rattle.def_file.specs.Trees.{Declares, IncludesClasses, InClass, OneOf, Condition, Sides, Equates, IncludesOperations}
-use Rattle.def_file.specs.Grammar.{IsToken, IsTermFrom, IsInclude, IsNames, IsIncludeOf, IsDeclared, IsSymbolItem, IsNamed, IsVariables, IsInClass, IsOneOf, IsRestriction, IsConditions, IsWhere, IsEquation, IsItem}
-use Rattle.def_file.specs.Reading.{IsReadAs, IsRefused}
+use Rattle.def_file.specs.Grammar.{IsToken, IsTermFrom, IsInclude, IsNames, IsIncludeOf, IsDeclaration, IsSymbolItem, IsNameList, IsVariables, IsInClass, IsOneOf, IsRestriction, IsConditions, IsWhere, IsEquation, IsItem}
+use Rattle.def_file.specs.Reading.{IsReadAs, IsSyntaxRefused}
 use Rattle.def_file.proofs.Readings.{first_read, first_choice_refused, second_read, second_choice_refused}
 use Rattle.def_file.proofs.Rules
 
@@ -30,7 +30,7 @@ include_can x i = let v : IsViable (Then (One IsInclude) (Some IsNames)) (x ∷ 
 abbrev some_declared : List Lexeme
 some_declared = some_name ∷ some_of_kind Colon ∷ some_of_kind Numeral ∷ []
 
-is_declared : Some IsDeclared some_declared
+is_declared : Some IsDeclaration some_declared
 is_declared = Rules.declared_to some_declared (
   some_name ∷ [],
   some_of_kind Colon ∷ some_of_kind Numeral ∷ [],
@@ -59,29 +59,29 @@ module _ (text : List ℕ) (at : ℕ) where
   -- a symbol item: an include, or a declaration
   module _ (next : NextIs IsInclude text at) where
     pub symbol_item_include : (include : Token × List Token) (end : ℕ) → IsReadAs (Some IsIncludeOf) (IsIncludeOf include) text at end → IsReadAs (Some IsSymbolItem) (IsSymbolItem (IncludesClasses include.0 include.1)) text at end
-    symbol_item_include include end r = first_read IsInclude (Some IsIncludeOf) (Some IsDeclared) Rules.include_begun Rules.symbol_item_to Rules.symbol_item_from text at include_can next (λ xs s. s) r
+    symbol_item_include include end r = first_read IsInclude (Some IsIncludeOf) (Some IsDeclaration) Rules.include_begun Rules.symbol_item_to Rules.symbol_item_from text at include_can next (λ xs s. s) r
 
-    pub symbol_item_include_refused : (error : FileError) → IsRefused (Some IsIncludeOf) text at error → IsRefused (Some IsSymbolItem) text at error
-    symbol_item_include_refused error r = first_choice_refused IsInclude (Some IsIncludeOf) (Some IsDeclared) Rules.include_begun Rules.symbol_item_to Rules.symbol_item_from text at include_can next error r
+    pub symbol_item_include_refused : (error : FileError) → IsSyntaxRefused (Some IsIncludeOf) text at error → IsSyntaxRefused (Some IsSymbolItem) text at error
+    symbol_item_include_refused error r = first_choice_refused IsInclude (Some IsIncludeOf) (Some IsDeclaration) Rules.include_begun Rules.symbol_item_to Rules.symbol_item_from text at include_can next error r
 
     -- an item: an include, or an equation
     pub item_include : (include : Token × List Token) (end : ℕ) → IsReadAs (Some IsIncludeOf) (IsIncludeOf include) text at end → IsReadAs (Some IsItem) (IsItem (IncludesOperations include.0 include.1)) text at end
     item_include include end r = first_read IsInclude (Some IsIncludeOf) (Some IsEquation) Rules.include_begun Rules.item_to Rules.item_from text at include_can next (λ xs s. s) r
 
-    pub item_include_refused : (error : FileError) → IsRefused (Some IsIncludeOf) text at error → IsRefused (Some IsItem) text at error
+    pub item_include_refused : (error : FileError) → IsSyntaxRefused (Some IsIncludeOf) text at error → IsSyntaxRefused (Some IsItem) text at error
     item_include_refused error r = first_choice_refused IsInclude (Some IsIncludeOf) (Some IsEquation) Rules.include_begun Rules.item_to Rules.item_from text at include_can next error r
 
   module _ (never : NextIs IsInclude text at → ⊥) where
-    pub symbol_item_declared : (name arity : Token) (end : ℕ) → IsReadAs (Some IsDeclared) (IsDeclared (name, arity)) text at end → IsReadAs (Some IsSymbolItem) (IsSymbolItem (Declares name arity)) text at end
-    symbol_item_declared name arity end r = second_read IsInclude (Some IsIncludeOf) (Some IsDeclared) Rules.include_begun Rules.symbol_item_to Rules.symbol_item_from text at some_declared is_declared no_include never (λ xs other s. (other, s)) r
+    pub symbol_item_declared : (name arity : Token) (end : ℕ) → IsReadAs (Some IsDeclaration) (IsDeclaration (name, arity)) text at end → IsReadAs (Some IsSymbolItem) (IsSymbolItem (Declares name arity)) text at end
+    symbol_item_declared name arity end r = second_read IsInclude (Some IsIncludeOf) (Some IsDeclaration) Rules.include_begun Rules.symbol_item_to Rules.symbol_item_from text at some_declared is_declared no_include never (λ xs other s. (other, s)) r
 
-    pub symbol_item_declared_refused : (error : FileError) → IsRefused (Some IsDeclared) text at error → IsRefused (Some IsSymbolItem) text at error
-    symbol_item_declared_refused error r = second_choice_refused IsInclude (Some IsIncludeOf) (Some IsDeclared) Rules.include_begun Rules.symbol_item_to Rules.symbol_item_from text at some_declared is_declared no_include never error r
+    pub symbol_item_declared_refused : (error : FileError) → IsSyntaxRefused (Some IsDeclaration) text at error → IsSyntaxRefused (Some IsSymbolItem) text at error
+    symbol_item_declared_refused error r = second_choice_refused IsInclude (Some IsIncludeOf) (Some IsDeclaration) Rules.include_begun Rules.symbol_item_to Rules.symbol_item_from text at some_declared is_declared no_include never error r
 
     pub item_equation : (s : Sides) (end : ℕ) → IsReadAs (Some IsEquation) (IsEquation s) text at end → IsReadAs (Some IsItem) (IsItem (Equates s)) text at end
     item_equation s end r = second_read IsInclude (Some IsIncludeOf) (Some IsEquation) Rules.include_begun Rules.item_to Rules.item_from text at some_equation is_equation no_include never (λ xs other s. (other, s)) r
 
-    pub item_equation_refused : (error : FileError) → IsRefused (Some IsEquation) text at error → IsRefused (Some IsItem) text at error
+    pub item_equation_refused : (error : FileError) → IsSyntaxRefused (Some IsEquation) text at error → IsSyntaxRefused (Some IsItem) text at error
     item_equation_refused error r = second_choice_refused IsInclude (Some IsIncludeOf) (Some IsEquation) Rules.include_begun Rules.item_to Rules.item_from text at some_equation is_equation no_include never error r
 
   -- the variables: none, or some
@@ -90,24 +90,24 @@ module _ (text : List ℕ) (at : ℕ) where
     colon_can x k = ([], (x, refl, k))
 
     pub variables_none : (end : ℕ) → IsReadAs (One (IsKind Colon)) (One (IsKind Colon)) text at end → IsReadAs (Some IsVariables) (IsVariables []) text at end
-    variables_none end r = first_read (IsKind Colon) (One (IsKind Colon)) (Some IsNamed) (Rules.one_begun (IsKind Colon)) Rules.variables_to Rules.variables_from text at colon_can next (λ xs s. s) r
+    variables_none end r = first_read (IsKind Colon) (One (IsKind Colon)) (Some IsNameList) (Rules.one_begun (IsKind Colon)) Rules.variables_to Rules.variables_from text at colon_can next (λ xs s. s) r
 
-    pub variables_none_refused : (error : FileError) → IsRefused (One (IsKind Colon)) text at error → IsRefused (Some IsVariables) text at error
-    variables_none_refused error r = first_choice_refused (IsKind Colon) (One (IsKind Colon)) (Some IsNamed) (Rules.one_begun (IsKind Colon)) Rules.variables_to Rules.variables_from text at colon_can next error r
+    pub variables_none_refused : (error : FileError) → IsSyntaxRefused (One (IsKind Colon)) text at error → IsSyntaxRefused (Some IsVariables) text at error
+    variables_none_refused error r = first_choice_refused (IsKind Colon) (One (IsKind Colon)) (Some IsNameList) (Rules.one_begun (IsKind Colon)) Rules.variables_to Rules.variables_from text at colon_can next error r
 
   module _ (never : NextIs (IsKind Colon) text at → ⊥) where
     no_colon : BeginsWith (IsKind Colon) Rules.named_part.some → ⊥
     no_colon b = not_begun (Kind Colon) (λ x k. k) Rules.named_part refl Rules.named_part.some Rules.named_part.some_is b
 
-    named_variables : (ns : List Token) (xs : List Lexeme) → IsNamed ns xs → IsVariables ns xs
+    named_variables : (ns : List Token) (xs : List Lexeme) → IsNameList ns xs → IsVariables ns xs
     named_variables [] xs (front, back, e, n, c) = absurd n
     named_variables (n ∷ ns) xs s = s
 
-    pub variables_some : (ns : List Token) (end : ℕ) → IsReadAs (Some IsNamed) (IsNamed ns) text at end → IsReadAs (Some IsVariables) (IsVariables ns) text at end
-    variables_some ns end r = second_read (IsKind Colon) (One (IsKind Colon)) (Some IsNamed) (Rules.one_begun (IsKind Colon)) Rules.variables_to Rules.variables_from text at Rules.named_part.some Rules.named_part.some_is no_colon never (λ xs other s. named_variables ns xs s) r
+    pub variables_some : (ns : List Token) (end : ℕ) → IsReadAs (Some IsNameList) (IsNameList ns) text at end → IsReadAs (Some IsVariables) (IsVariables ns) text at end
+    variables_some ns end r = second_read (IsKind Colon) (One (IsKind Colon)) (Some IsNameList) (Rules.one_begun (IsKind Colon)) Rules.variables_to Rules.variables_from text at Rules.named_part.some Rules.named_part.some_is no_colon never (λ xs other s. named_variables ns xs s) r
 
-    pub variables_some_refused : (error : FileError) → IsRefused (Some IsNamed) text at error → IsRefused (Some IsVariables) text at error
-    variables_some_refused error r = second_choice_refused (IsKind Colon) (One (IsKind Colon)) (Some IsNamed) (Rules.one_begun (IsKind Colon)) Rules.variables_to Rules.variables_from text at Rules.named_part.some Rules.named_part.some_is no_colon never error r
+    pub variables_some_refused : (error : FileError) → IsSyntaxRefused (Some IsNameList) text at error → IsSyntaxRefused (Some IsVariables) text at error
+    variables_some_refused error r = second_choice_refused (IsKind Colon) (One (IsKind Colon)) (Some IsNameList) (Rules.one_begun (IsKind Colon)) Rules.variables_to Rules.variables_from text at Rules.named_part.some Rules.named_part.some_is no_colon never error r
 
   -- what a variable may stand for: a class, or alternatives
   module _ (next : NextIs (IsWord (codes "in")) text at) where
@@ -117,7 +117,7 @@ module _ (text : List ℕ) (at : ℕ) where
     pub restriction_in : (name : Token) (end : ℕ) → IsReadAs (Some IsInClass) (IsInClass name) text at end → IsReadAs (Some IsRestriction) (IsRestriction (InClass name)) text at end
     restriction_in name end r = first_read (IsWord (codes "in")) (Some IsInClass) (Some IsOneOf) Rules.in_begun Rules.restriction_to Rules.restriction_from text at in_can next (λ xs s. s) r
 
-    pub restriction_in_refused : (error : FileError) → IsRefused (Some IsInClass) text at error → IsRefused (Some IsRestriction) text at error
+    pub restriction_in_refused : (error : FileError) → IsSyntaxRefused (Some IsInClass) text at error → IsSyntaxRefused (Some IsRestriction) text at error
     restriction_in_refused error r = first_choice_refused (IsWord (codes "in")) (Some IsInClass) (Some IsOneOf) Rules.in_begun Rules.restriction_to Rules.restriction_from text at in_can next error r
 
   module _ (never : NextIs (IsWord (codes "in")) text at → ⊥) where
@@ -127,7 +127,7 @@ module _ (text : List ℕ) (at : ℕ) where
     pub restriction_either : (terms : List ℕ) (end : ℕ) → IsReadAs (Some IsOneOf) (IsOneOf terms) text at end → IsReadAs (Some IsRestriction) (IsRestriction (OneOf terms)) text at end
     restriction_either terms end r = second_read (IsWord (codes "in")) (Some IsInClass) (Some IsOneOf) Rules.in_begun Rules.restriction_to Rules.restriction_from text at Rules.one_of_part.some Rules.one_of_part.some_is no_in never (λ xs other s. s) r
 
-    pub restriction_either_refused : (error : FileError) → IsRefused (Some IsOneOf) text at error → IsRefused (Some IsRestriction) text at error
+    pub restriction_either_refused : (error : FileError) → IsSyntaxRefused (Some IsOneOf) text at error → IsSyntaxRefused (Some IsRestriction) text at error
     restriction_either_refused error r = second_choice_refused (IsWord (codes "in")) (Some IsInClass) (Some IsOneOf) Rules.in_begun Rules.restriction_to Rules.restriction_from text at Rules.one_of_part.some Rules.one_of_part.some_is no_in never error r
 
   -- the conditions of an equation: some, or none
@@ -142,7 +142,7 @@ module _ (text : List ℕ) (at : ℕ) where
     pub where_some : (cs : List Condition) (end : ℕ) → IsReadAs (Some IsConditions) (IsConditions cs) text at end → IsReadAs (Some IsWhere) (IsWhere cs) text at end
     where_some cs end r = first_read (IsWord (codes "where")) (Some IsConditions) Nothing Rules.qualified_begun Rules.where_to Rules.where_from text at where_can next (λ xs s. some_where cs xs s) r
 
-    pub where_some_refused : (error : FileError) → IsRefused (Some IsConditions) text at error → IsRefused (Some IsWhere) text at error
+    pub where_some_refused : (error : FileError) → IsSyntaxRefused (Some IsConditions) text at error → IsSyntaxRefused (Some IsWhere) text at error
     where_some_refused error r = first_choice_refused (IsWord (codes "where")) (Some IsConditions) Nothing Rules.qualified_begun Rules.where_to Rules.where_from text at where_can next error r
 
   pub where_none : (NextIs (IsWord (codes "where")) text at → ⊥) → at ≤ length text → IsReadAs (Some IsWhere) (IsWhere []) text at at

@@ -10,7 +10,7 @@ use Rattle.symbol_table.proofs.Keeping.{keeps_trans, names_kept}
 use Rattle.symbol_table.proofs.Rereading.{pattern_kept, live_pattern_kept}
 use Rattle.standmath.specs.Reading.{ReadsPattern}
 use Rattle.def_file.specs.Naming.{knowing}
-use Rattle.def_file.specs.Taking.{IsTaken}
+use Rattle.def_file.specs.Taking.{IsSideTaken}
 
 -- what is known stays
 pub knowing_kept : (old new : Table) → Keeps old new → (variables : List (List ℕ)) (operations : List Op)
@@ -22,7 +22,7 @@ knowing_kept old new k variables operations =
 pub taken_later : (text : List ℕ) (variables : List (List ℕ)) (operations : List Op) (old new later : Table)
     → Keeps old new → Keeps new later → (byte : ℕ) (p : Tree (PatternCell Head)) (end : ℕ)
     → ReadsPattern (names_of old) variables text byte (read_pattern new p) end → IsLivePattern new p
-    → IsTaken text (knowing later variables operations) later byte p
+    → IsSideTaken text (knowing later variables operations) later byte p
 taken_later text variables operations old new later k l byte p end reads live =
     let named = subst (λ (names : Table). ReadsPattern names variables text byte (read_pattern new p) end)
     (sym (names_kept old later (keeps_trans old new later k l))) reads in

@@ -12,7 +12,7 @@ use Rattle.term_lex.proofs.PlainAnswers.{kind_next, some_of_kind, of_kind}
 use Rattle.term_lex.proofs.ListAnswers.{separated_start, separated_err, separated_on, separated_on_err, separated_end, list_err, list_last, list_on, list_end}
 use Rattle.def_file.specs.declared.error.FileError.{FileError}
 use Rattle.def_file.specs.declared.error.FileError.TheVariants.{Refused, NoMemory}
-use Rattle.def_file.specs.Reading.{Stands, IsReadAs, IsRefused}
+use Rattle.def_file.specs.Reading.{IsSentenceAt, IsReadAs, IsSyntaxRefused}
 
 -- one more, as the tree of one more
 pub map-one_more : {A B : Type 0} (f : A → B) (xs : List A) (x : A) {ys : List A} → ys ≡ xs ++ x ∷ [] → map f ys ≡ map f xs ++ f x ∷ []
@@ -27,7 +27,7 @@ first-pushed x none e = e ∙ ap (λ zs. zs ++ x ∷ []) none
 -- a list has been read up to a place: whatever the rest of it is from there on is the answer of the whole
 pub record ListBegun {V : Type 0} (S : Lexeme → Type 0) (G : V → List Lexeme → Type 0) (text : List ℕ) (at : ℕ) (vs : List V) (end : ℕ) : Type 0 where
   pub rest : (r : Result ℕ Fault) → IsAnswer (Some (Each (Led S G))) text end r → IsAnswer (Some (Separated S G)) text at r
-  pub form : Stands (Separated S G vs) text at end
+  pub form : IsSentenceAt (Separated S G vs) text at end
   pub within : end ≤ length text
 
 module _ {V : Type 0} (S : Lexeme → Type 0) (G : V → List Lexeme → Type 0) where
@@ -47,7 +47,7 @@ module _ {V : Type 0} (S : Lexeme → Type 0) (G : V → List Lexeme → Type 0)
     within = r.within;
   }
 
-  pub list_first_refused : (error : FileError) → IsRefused (Some G) text at error → IsRefused (Some (Separated S G)) text at error
+  pub list_first_refused : (error : FileError) → IsSyntaxRefused (Some G) text at error → IsSyntaxRefused (Some (Separated S G)) text at error
   list_first_refused (Refused f) a = separated_err S G mark fits x0 separates p e f a
   list_first_refused NoMemory a = tt
 
@@ -58,7 +58,7 @@ module _ {V : Type 0} (S : Lexeme → Type 0) (G : V → List Lexeme → Type 0)
     within = r.within;
   }
 
-  pub list_more_refused : (vs : List V) (mid : ℕ) → ListBegun S G text at vs mid → NextIs S text mid → (error : FileError) → IsRefused (Some (Led S G)) text mid error → IsRefused (Some (Separated S G)) text at error
+  pub list_more_refused : (vs : List V) (mid : ℕ) → ListBegun S G text at vs mid → NextIs S text mid → (error : FileError) → IsSyntaxRefused (Some (Led S G)) text mid error → IsSyntaxRefused (Some (Separated S G)) text at error
   list_more_refused vs mid b next (Refused f) a = b.rest (Err f) (separated_on_err S G mark fits x0 separates p e next f a)
   list_more_refused vs mid b next NoMemory a = tt
 
@@ -74,7 +74,7 @@ module _ {V : Type 0} (S : Lexeme → Type 0) (G : V → List Lexeme → Type 0)
 -- the same of such a list, each of whose items has a separator behind it
 pub record ClosedBegun {V : Type 0} (k l : TokenKind) (G : V → List Lexeme → Type 0) (text : List ℕ) (at : ℕ) (vs : List V) (end : ℕ) : Type 0 where
   pub rest : (r : Result ℕ Fault) → IsAnswer (Some (Closed (IsKind k) (IsKind l) G)) text end r → IsAnswer (Some (Closed (IsKind k) (IsKind l) G)) text at r
-  pub form : Stands (Each (λ v. Then (G v) (One (IsKind k))) vs) text at end
+  pub form : IsSentenceAt (Each (λ v. Then (G v) (One (IsKind k))) vs) text at end
   pub within : end ≤ length text
 
 module _ {V : Type 0} (S C : Lexeme → Type 0) (G : V → List Lexeme → Type 0) where
@@ -104,12 +104,12 @@ module _ {V : Type 0} (k l : TokenKind) (G : V → List Lexeme → Type 0) {firs
       within = r.within;
     }
 
-    pub closed_done_refused : NextIs (IsKind l) text mid → (error : FileError) → IsRefused (One (IsKind l)) text mid error → IsRefused (Some (Closed (IsKind k) (IsKind l) G)) text at error
+    pub closed_done_refused : NextIs (IsKind l) text mid → (error : FileError) → IsSyntaxRefused (One (IsKind l)) text mid error → IsSyntaxRefused (Some (Closed (IsKind k) (IsKind l) G)) text at error
     closed_done_refused next (Refused f) a = absurd (kind_next l text mid next f a)
     closed_done_refused next NoMemory a = tt
 
     module _ (never : NextIs (IsKind l) text mid → ⊥) where
-      pub closed_item_refused : (error : FileError) → IsRefused (Some G) text mid error → IsRefused (Some (Closed (IsKind k) (IsKind l) G)) text at error
+      pub closed_item_refused : (error : FileError) → IsSyntaxRefused (Some G) text mid error → IsSyntaxRefused (Some (Closed (IsKind k) (IsKind l) G)) text at error
       closed_item_refused (Refused f) a = b.rest (Err f) (list_err (IsKind k) (IsKind l) G (Kind k) (Kind l) (λ x t. t) (λ x t. t) (some_of_kind k) (of_kind k) (some_of_kind l) (of_kind l) p goes other text mid never f a)
       closed_item_refused NoMemory a = tt
 
@@ -125,7 +125,7 @@ module _ {V : Type 0} (k l : TokenKind) (G : V → List Lexeme → Type 0) {firs
           within = c.within;
         }
 
-        pub closed_last_refused : (NextIs (IsKind k) text behind → ⊥) → (error : FileError) → IsRefused (One (IsKind l)) text behind error → IsRefused (Some (Closed (IsKind k) (IsKind l) G)) text at error
+        pub closed_last_refused : (NextIs (IsKind k) text behind → ⊥) → (error : FileError) → IsSyntaxRefused (One (IsKind l)) text behind error → IsSyntaxRefused (Some (Closed (IsKind k) (IsKind l) G)) text at error
         closed_last_refused last (Refused f) a = b.rest (Err f) (list_last (IsKind k) (IsKind l) G (Kind k) (Kind l) (λ x t. t) (λ x t. t) (some_of_kind k) (of_kind k) (some_of_kind l) (of_kind l) p goes other text mid never behind r.answer last (Err f) a)
         closed_last_refused last NoMemory a = tt
 
@@ -140,6 +140,6 @@ module _ {V : Type 0} (k l : TokenKind) (G : V → List Lexeme → Type 0) {firs
           within = s.within;
         }
 
-  pub separator_refused : (mid : ℕ) → NextIs (IsKind k) text mid → (error : FileError) → IsRefused (One (IsKind k)) text mid error → IsRefused (Some (Closed (IsKind k) (IsKind l) G)) text at error
+  pub separator_refused : (mid : ℕ) → NextIs (IsKind k) text mid → (error : FileError) → IsSyntaxRefused (One (IsKind k)) text mid error → IsSyntaxRefused (Some (Closed (IsKind k) (IsKind l) G)) text at error
   separator_refused mid next (Refused f) a = absurd (kind_next k text mid next f a)
   separator_refused mid next NoMemory a = tt

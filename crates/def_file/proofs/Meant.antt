@@ -24,11 +24,11 @@ use Rattle.def_file.specs.declared.definitions.Qualifier.{Qualifier}
 use Rattle.term_lex.specs.declared.fault.Fault.{Fault}
 use Rattle.def_file.specs.Pairs.{AreRelated}
 use Rattle.def_file.specs.Trees.{Restriction, InClass, OneOf, Condition, Sides, EquationItem, Equates, IncludesOperations}
-use Rattle.def_file.specs.Names.{Known, bytes_of}
+use Rattle.def_file.specs.Names.{Known, token_bytes}
 use Rattle.def_file.specs.Operations.{operation_name}
 use Rattle.def_file.specs.Sides.{limits_of, all_limits, equation_of, AnswersLimits}
 use Rattle.def_file.specs.Definitions.{class_of, restricted_to, classed, NamesVariable, IsFirstIn, AreIn, MeansSide, MeanChoices, MeansQualifier, MeansEquation, MeansOperation, MeansItem, MeanItems}
-use Rattle.def_file.specs.Taking.{IsTaken, TakesChoice, TakesCondition, TakesEquation, class_in, classes_in, choices_of, qualifier_of, written_of, class_item, TakesItem, items_behind, equations_behind, fault_behind, first_fault}
+use Rattle.def_file.specs.Taking.{IsSideTaken, TakesChoice, TakesCondition, TakesEquation, class_in, classes_in, choices_of, qualifier_of, written_of, class_item, TakesItem, items_behind, equations_behind, fault_behind, first_fault}
 use Rattle.def_file.specs.AsRead.{ReadNumbered, qualifier_read, equation_read, numbered_read, IsLiveWritten, AreLiveItems}
 use Rattle.def_file.proofs.Pairs.{related_map, flat_append}
 use Rattle.def_file.proofs.Limits.{answers_append}
@@ -93,21 +93,21 @@ module _ (text : List ℕ) (known : Known) (table : Table) where
   are_in (c ∷ cs) (t ∷ ts) (h, hs) = first_in c.variable c.restriction t.variable t.choice h.variable h.choice (λ rest. AreIn text known cs rest) (classes_in ts) (are_in cs ts hs)
 
   module _ (classes : List (ℕ × ℕ)) where
-    side : (byte : ℕ) (p : Tree (PatternCell Head)) → IsTaken text known table byte p → MeansSide text known classes byte (read_pattern table (map_heads (classed classes) p))
+    side : (byte : ℕ) (p : Tree (PatternCell Head)) → IsSideTaken text known table byte p → MeansSide text known classes byte (read_pattern table (map_heads (classed classes) p))
     side byte p is = (read_pattern table p, is.means, pattern-classed _ classes p)
 
     choices : (r : Restriction) (t : Choice) → TakesChoice text known table r t → MeanChoices text known classes r (map (read_pattern table) (choices_of classes t))
     choices (InClass name) (choice.InClass k) h = refl
     choices (OneOf terms) (choice.OneOf patterns) h =
         related_map (λ byte q. MeansSide text known classes byte (read_pattern table q)) (MeansSide text known classes) (read_pattern table) (λ byte q m. m) terms _
-        (related_map (IsTaken text known table) (λ byte q. MeansSide text known classes byte (read_pattern table q)) (map_heads (classed classes)) side terms patterns.items h)
+        (related_map (IsSideTaken text known table) (λ byte q. MeansSide text known classes byte (read_pattern table q)) (map_heads (classed classes)) side terms patterns.items h)
     choices (InClass name) (choice.OneOf patterns) h = absurd h
     choices (OneOf terms) (choice.InClass k) h = absurd h
 
     qualifier : (c : Condition) (t : TakenCondition) → Taken c t → MeansQualifier text known classes c (qualifier_read table (qualifier_of classes t))
     qualifier c t h = record { variable = h.variable; choices = choices c.restriction t.choice h.choice; place = h.place }
 
-    live_patterns : (terms : List ℕ) (ps : List (Tree (PatternCell Head))) → AreRelated (IsTaken text known table) terms ps → AllByRecursion (IsLivePattern table) (map (map_heads (classed classes)) ps)
+    live_patterns : (terms : List ℕ) (ps : List (Tree (PatternCell Head))) → AreRelated (IsSideTaken text known table) terms ps → AllByRecursion (IsLivePattern table) (map (map_heads (classed classes)) ps)
     live_patterns [] [] h = tt
     live_patterns [] (p ∷ ps) h = absurd h
     live_patterns (x ∷ xs) [] h = absurd h
@@ -149,7 +149,7 @@ module _ (text : List ℕ) (known : Known) (table : Table) where
       }
 
   -- names that are taken mean the equation classes as items
-  pub classes_mean : (number : ℕ) (names : List Token) (operations : List (Op × ℕ)) → AreRelated (λ name o. (bytes_of text name ≡ operation_name o.0) × (o.1 ≡ name.from)) names operations → AreRelated (MeansOperation text known number) names (map (numbered_read table) (map (class_item number) operations))
+  pub classes_mean : (number : ℕ) (names : List Token) (operations : List (Op × ℕ)) → AreRelated (λ name o. (token_bytes text name ≡ operation_name o.0) × (o.1 ≡ name.from)) names operations → AreRelated (MeansOperation text known number) names (map (numbered_read table) (map (class_item number) operations))
   classes_mean number [] [] h = tt
   classes_mean number [] (o ∷ os) h = absurd h
   classes_mean number (n ∷ ns) [] h = absurd h

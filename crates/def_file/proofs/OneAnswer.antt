@@ -13,7 +13,7 @@ use Rattle.def_file.specs.AsRead.{ReadQualifier, ReadEquation, Equation, Class, 
 use Rattle.def_file.specs.Errors.{AnswersRight, AnswersAs}
 use Rattle.def_file.specs.Trees.{Restriction, InClass, OneOf, Condition, Sides, EquationItem, Equates, IncludesOperations, File}
 use Rattle.def_file.specs.Pairs.{AreRelated}
-use Rattle.def_file.specs.Names.{Known, places_of, bytes_of}
+use Rattle.def_file.specs.Names.{Known, places_of, token_bytes}
 use Rattle.def_file.specs.Definitions.{classed, NamesVariable, IsFirstIn, AreIn, MeansSide, MeanChoices, MeansQualifier, MeansEquation, MeansOperation, MeansItem, MeanItems, Says, IsDefinitions}
 use Rattle.def_file.proofs.OneNaming.{AreOnce, distinct_names, one_class, one_operation, pattern_one}
 use Rattle.def_file.proofs.OneFault.{one_known, one_file_fault, says_no_fault}
@@ -35,7 +35,7 @@ related_one R same (x ∷ xs) (y ∷ ys) (z ∷ zs) (r, rs) (s, ss) =
 module _ (text : List ℕ) (known : Known) (once : AreOnce known) where
   variable_one : (name : Token) (x y : ℕ) → NamesVariable text known name x → NamesVariable text known name y
       → x ≡ y
-  variable_one name x y is is' = once.variables (bytes_of text name) x y is is'
+  variable_one name x y is is' = once.variables (token_bytes text name) x y is is'
 
   first_one : (name : Token) (r : Restriction) (Rest : List (ℕ × ℕ) → Type 0)
       → ((us vs : List (ℕ × ℕ)) → Rest us → Rest vs → us ≡ vs)
@@ -44,7 +44,7 @@ module _ (text : List ℕ) (known : Known) (once : AreOnce known) where
   first_one name (InClass token) Rest same xs ys
       (x, class, rest, is, named, e, r) (y, class', rest', is', named', e', r') =
       let number = variable_one name x y is is' in
-      let class_is = one_class (bytes_of text token) class class' named named' in
+      let class_is = one_class (token_bytes text token) class class' named named' in
       let tail = same rest rest' r r' in
       let whole : ◌≡◌ {A = List (ℕ × ℕ)} ((x, class_number class) ∷ rest) ((y, class_number class') ∷ rest') =
       λ i. (number i, class_number (class_is i)) ∷ tail i in
@@ -96,7 +96,7 @@ module _ (text : List ℕ) (known : Known) (once : AreOnce known) where
   class_one : (number : ℕ) (name : Token) (n m : ReadNumbered) → MeansOperation text known number name n
       → MeansOperation text known number name m → n ≡ m
   class_one number name n m (op, named, e) (op', named', e') =
-      let same = one_operation (bytes_of text name) op op' named named' in
+      let same = one_operation (token_bytes text name) op op' named named' in
       e ∙ ap (λ o. record { item = Class o name.from; number = number }) same ∙ sym e'
 
   item_one : (number : ℕ) (i : EquationItem) (ns ms : List ReadNumbered) → MeansItem text known number i ns

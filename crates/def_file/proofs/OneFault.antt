@@ -8,18 +8,18 @@ use Rattle.def_file.specs.AsRead.{ReadDefinitions}
 use Rattle.def_file.specs.Trees.{File}
 use Rattle.def_file.specs.Grammar.{IsSomeFile, IsFileText}
 use Rattle.def_file.specs.Names.{Known, nothing_known, places_of, TakesAll, RefusesFirst}
-use Rattle.def_file.specs.Sides.{Limit, Equations, Application, Cells, IsApplication, Keeps, Passes, KeepsAll, PassesFirst, all_limits}
-use Rattle.def_file.specs.Definitions.{equations_of, Says, HasNameFault, HasSideFault, IsFileFault}
+use Rattle.def_file.specs.Sides.{Limit, Equations, Application, Cells, IsSymbolApplied, KeepsLimit, Passes, KeepsAll, PassesFirst, all_limits}
+use Rattle.def_file.specs.Definitions.{sides_of, Says, HasNameFault, HasSideFault, IsFileFault}
 use Rattle.def_file.proofs.OneFile.{file_reads, one_file}
 use Rattle.def_file.proofs.OneNaming.{AreOnce, distinct_names, one_naming, pattern_one, named_or_refused, one_name_fault}
 
 -- ---- limits
 
 module _ (text : List ℕ) (known : Known) (once : AreOnce known) where
-  kept_or_passed : (l : Limit) (f : Fault) → Keeps text known l → Passes text known l f → ⊥
+  kept_or_passed : (l : Limit) (f : Fault) → KeepsLimit text known l → Passes text known l f → ⊥
   kept_or_passed (Equations before byte) f keeps (passes, is) = omega (arith, keeps, passes)
   kept_or_passed (Application byte) f (p, read, app) (q, read', none, is) =
-      none (subst IsApplication (pattern_one text known once byte p q read read') app)
+      none (subst IsSymbolApplied (pattern_one text known once byte p q read read') app)
   kept_or_passed (Cells most byte) f (p, read, fits) (q, read', past, is) =
       let same = ap size (pattern_one text known once byte p q read read') in omega (arith, same, fits, past)
 
@@ -79,16 +79,16 @@ module _ (text : List ℕ) where
   -- the first limit that is passed, by what is known of the file
   passed_too : (file : File) (known : Known) (f : Fault) → IsFileText text file
       → TakesAll text nothing_known (places_of file) known → HasSideFault text f
-      → PassesFirst text known (all_limits 0 (equations_of file)) f
+      → PassesFirst text known (all_limits 0 (sides_of file)) f
   passed_too file known f reads takes s =
       let same = one_known s.file file s.known known s.reads reads s.names takes in
-      subst (λ v. PassesFirst text known (all_limits 0 (equations_of v)) f) same.0
-      (subst (λ k. PassesFirst text k (all_limits 0 (equations_of s.file)) f) same.1 s.passed)
+      subst (λ v. PassesFirst text known (all_limits 0 (sides_of v)) f) same.0
+      (subst (λ k. PassesFirst text k (all_limits 0 (sides_of s.file)) f) same.1 s.passed)
 
   one_side_refusal : (f g : Fault) → HasSideFault text f → HasSideFault text g → f ≡ g
   one_side_refusal f g s t =
       one_first_passed text s.known (distinct_names text (places_of s.file) s.known s.names)
-      (all_limits 0 (equations_of s.file)) f g s.passed (passed_too s.file s.known g s.reads s.names t)
+      (all_limits 0 (sides_of s.file)) f g s.passed (passed_too s.file s.known g s.reads s.names t)
 
   -- a file has one first fault
   pub one_file_fault : (f g : Fault) → IsFileFault text f → IsFileFault text g → f ≡ g
@@ -121,5 +121,5 @@ module _ (text : List ℕ) where
       taken_or_fault says.file says.known f says.reads says.names n
   says_no_fault definitions f says (inr (short, inr (inr s))) =
       all_or_passed text says.known (distinct_names text (places_of says.file) says.known says.names)
-      (all_limits 0 (equations_of says.file)) f says.limits
+      (all_limits 0 (sides_of says.file)) f says.limits
       (passed_too says.file says.known f says.reads says.names s)

@@ -13,7 +13,7 @@ use Rattle.term_lex.proofs.ListAnswers.{same_part}
 use Rattle.term_lex.proofs.OneTree.{OneTree, separated_one, closed_one}
 use Rattle.term_lex.proofs.Readings.{one_reading}
 use Rattle.def_file.specs.Trees.{SymbolItem, Declares, IncludesClasses, Restriction, InClass, OneOf, Condition, EquationItem, Equates, IncludesOperations, File}
-use Rattle.def_file.specs.Grammar.{IsToken, IsWordAs, IsTermFrom, IsNames, IsIncludeOf, IsDeclared, IsSymbolItem, IsNamed, IsVariables, IsTerms, IsInClass, IsOneOf, IsRestriction, IsCondition, IsConditions, IsWhere, IsEquation, IsItem, IsFile, IsSomeFile, IsFileText}
+use Rattle.def_file.specs.Grammar.{IsToken, IsWordAs, IsTermFrom, IsNames, IsIncludeOf, IsDeclaration, IsSymbolItem, IsNameList, IsVariables, IsTerms, IsInClass, IsOneOf, IsRestriction, IsCondition, IsConditions, IsWhere, IsEquation, IsItem, IsFile, IsSomeFile, IsFileText}
 use Rattle.standmath.proofs.Terms.{term_marks}
 use Rattle.def_file.proofs.Rules
 
@@ -75,7 +75,7 @@ Numbered a xs = Then (One (IsKind Colon)) (IsToken Numeral a) xs
 numbered_one : OneTree Numbered
 numbered_one a b xs s t = back_one (kind_part Colon) (Rules.token_part Numeral) refl (IsToken Numeral) (some_of (IsToken Numeral)) (token_one Numeral) a b xs s t
 
-declared_one : (n m a b : Token) (xs : List Lexeme) → IsDeclared (n, a) xs → IsDeclared (m, b) xs → (n ≡ m) × (a ≡ b)
+declared_one : (n m a b : Token) (xs : List Lexeme) → IsDeclaration (n, a) xs → IsDeclaration (m, b) xs → (n ≡ m) × (a ≡ b)
 declared_one n m a b xs s t =
     both_one (Rules.token_part Name) (then_part (kind_part Colon) (Rules.token_part Numeral) refl) refl (IsToken Name) Numbered (some_of (IsToken Name)) parts (token_one Name) numbered_one n m a b xs s t
   where
@@ -93,10 +93,10 @@ symbols_one vs ws xs s t = closed_one (IsKind Semicolon) (IsKind Dot) IsSymbolIt
 
 -- ---- variables
 
-named_one : OneTree IsNamed
+named_one : OneTree IsNameList
 named_one ns ms xs s t = front_one Rules.names_part (kind_part Colon) refl IsNames (some_of IsNames) names_one ns ms xs s t
 
-no_colon : (v : Token) (vs : List Token) (xs : List Lexeme) → One (IsKind Colon) xs → IsNamed (v ∷ vs) xs → ⊥
+no_colon : (v : Token) (vs : List Token) (xs : List Lexeme) → One (IsKind Colon) xs → IsNameList (v ∷ vs) xs → ⊥
 no_colon v vs xs c s = not_begun (Kind Colon) (λ x k. k) Rules.named_part refl xs (v ∷ vs, s) (Rules.one_begun (IsKind Colon) xs c)
 
 variables_one : OneTree IsVariables

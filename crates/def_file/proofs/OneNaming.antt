@@ -21,7 +21,7 @@ use Rattle.symbol_table.proofs.Keys.{AreDistinct-push}
 use Rattle.standmath.specs.Refusing.{IsPatternAt, RefusesPattern}
 use Rattle.standmath.proofs.OneReading.{one_pattern_at}
 use Rattle.def_file.specs.Operations.{operation_name, HasNeeds}
-use Rattle.def_file.specs.Names.{Place, Symbol, Class, Variable, Term, Qualified, ClassOf, Operation, Known, nothing_known, bytes_of, Takes, Refuses, TakesAll, RefusesFirst, RefusesSymbol, RefusesQualified, RefusesClassOf, RefusesOperation}
+use Rattle.def_file.specs.Names.{Place, Symbol, Class, Variable, Term, Qualified, ClassOf, Operation, Known, nothing_known, token_bytes, Takes, Refuses, TakesAll, RefusesFirst, RefusesSymbol, RefusesQualified, RefusesClassOf, RefusesOperation}
 use Rattle.def_file.specs.Sides.{IsPattern}
 
 -- ---- names of classes
@@ -103,7 +103,7 @@ module _ (text : List ℕ) where
   takes_once : (p : Place) (a b : Known) → AreOnce a → Takes text a p b → AreOnce b
   takes_once (Symbol name arity) a b o (number, d, e) =
       let names = subst HasDistinctNames (sym d.added)
-      (distinct-with_symbol a.table (bytes_of text name) d.arguments o.names d.fresh) in
+      (distinct-with_symbol a.table (token_bytes text name) d.arguments o.names d.fresh) in
       subst AreOnce (sym e) (record { names = names; variables = o.variables })
   takes_once (Class name) a b o (c, e) =
       let names = subst HasDistinctNames (sym c.added)
@@ -111,7 +111,7 @@ module _ (text : List ℕ) where
       subst AreOnce (sym e) (record { names = names; variables = o.variables })
   takes_once (Variable name) a b o (v, e) =
       let variables = subst AreDistinct (sym v.added)
-      (AreDistinct-push a.variables (bytes_of text name) o.variables v.fresh) in
+      (AreDistinct-push a.variables (token_bytes text name) o.variables v.fresh) in
       subst AreOnce (sym e) (record { names = o.names; variables = variables })
   takes_once (Term byte) a b o (pattern, end, reads, e) = subst AreOnce (sym e) o
   takes_once (Qualified before name) a b o (has, fresh, e) = subst AreOnce (sym e) o
@@ -124,10 +124,10 @@ module _ (text : List ℕ) where
   takes_one (Symbol name arity) a b c (number, s, e) (other, t, f) =
       let counted : pos s.arguments ≡ pos t.arguments = sym s.counted ∙ t.counted in
       let arguments : s.arguments ≡ t.arguments = cc in
-      let table = s.added ∙ ap (with_symbol a.table (bytes_of text name)) arguments ∙ sym t.added in
+      let table = s.added ∙ ap (with_symbol a.table (token_bytes text name)) arguments ∙ sym t.added in
       e ∙ ap (λ v. known_by v a.variables a.operations) table ∙ sym f
   takes_one (Class name) a b c (s, e) (t, f) =
-      let class = one_class (bytes_of text name) s.class t.class s.named t.named in
+      let class = one_class (token_bytes text name) s.class t.class s.named t.named in
       let table = s.added ∙ ap (with_class a.table) class ∙ sym t.added in
       e ∙ ap (λ v. known_by v a.variables a.operations) table ∙ sym f
   takes_one (Variable name) a b c (s, e) (t, f) =
@@ -136,7 +136,7 @@ module _ (text : List ℕ) where
   takes_one (Qualified before name) a b c (has, fresh, e) (has', fresh', f) = e ∙ sym f
   takes_one (ClassOf name) a b c (class, named, has, e) (class', named', has', f) = e ∙ sym f
   takes_one (Operation name) a b c (op, named, fresh, needs, e) (op', named', fresh', needs', f) =
-      let same = one_operation (bytes_of text name) op op' named named' in
+      let same = one_operation (token_bytes text name) op op' named named' in
       e ∙ ap (λ o. known_by a.table a.variables (a.operations ++ o ∷ [])) same ∙ sym f
 
   all_once : (ps : List Place) (a b : Known) → AreOnce a → TakesAll text a ps b → AreOnce b
@@ -231,7 +231,7 @@ module _ (text : List ℕ) where
 
   module _ (known : Known) (name : List ℕ) where
     qualified_or_refused : (before : List Token) (kind : FaultKind) → Contains known.variables name
-        → ¬ Contains (map (bytes_of text) before) name → RefusesQualified text known before name kind → ⊥
+        → ¬ Contains (map (token_bytes text) before) name → RefusesQualified text known before name kind → ⊥
     qualified_or_refused before QualifiedUnknown has fresh why = why has
     qualified_or_refused before QualifiedTwice has fresh (has', twice) = fresh twice
     qualified_or_refused before kind has fresh why = why
@@ -248,20 +248,20 @@ module _ (text : List ℕ) where
   taken_or_refused : (p : Place) (a b : Known) (f : Fault) → AreOnce a → Takes text a p b
       → Refuses text a p f → ⊥
   taken_or_refused (Symbol name arity) a b f o (number, s, e) (why, place) =
-      declared_or_refused a.table (bytes_of text name) (numeral_value (bytes_of text arity)) s.arguments
+      declared_or_refused a.table (token_bytes text name) (numeral_value (token_bytes text arity)) s.arguments
       f.kind s.counted s.fits s.fresh why
   taken_or_refused (Class name) a b f o (s, e) (why, place) =
-      included_or_refused a.table (bytes_of text name) s.class f.kind s.named s.fresh s.undeclared why
+      included_or_refused a.table (token_bytes text name) s.class f.kind s.named s.fresh s.undeclared why
   taken_or_refused (Variable name) a b f o (v, e) (why, place) =
-      listed_or_refused a.table (bytes_of text name) a.variables f.kind v.fresh v.no_symbol why
+      listed_or_refused a.table (token_bytes text name) a.variables f.kind v.fresh v.no_symbol why
   taken_or_refused (Term byte) a b f o (pattern, end, reads, e) why =
       read_or_refused a o byte pattern f (end, reads) why
   taken_or_refused (Qualified before name) a b f o (has, fresh, e) (why, place) =
-      qualified_or_refused a (bytes_of text name) before f.kind has fresh why
+      qualified_or_refused a (token_bytes text name) before f.kind has fresh why
   taken_or_refused (ClassOf name) a b f o (class, named, has, e) (why, place) =
-      class_or_refused a.table (bytes_of text name) class f.kind named has why
+      class_or_refused a.table (token_bytes text name) class f.kind named has why
   taken_or_refused (Operation name) a b f o (op, named, fresh, needs, e) (why, place) =
-      operation_or_refused a (bytes_of text name) op f.kind named fresh needs why
+      operation_or_refused a (token_bytes text name) op f.kind named fresh needs why
 
   -- ---- one refusal
 
@@ -308,7 +308,7 @@ module _ (text : List ℕ) where
 
   module _ (table : Table) (name arity : Token) where
     abbrev Why : FaultKind → Type 0
-    Why kind = RefusesDeclaration table (bytes_of text name) (numeral_value (bytes_of text arity)) kind
+    Why kind = RefusesDeclaration table (token_bytes text name) (numeral_value (token_bytes text arity)) kind
 
     -- a declaration is refused for its name or for its arity
     twice_or_past : (kind other : FaultKind) → kind ≡ Twice → other ≡ ArityPast → Why kind → Why other → ⊥
@@ -329,17 +329,17 @@ module _ (text : List ℕ) where
       → Refuses text a p g → f ≡ g
   one_refused_place (Symbol name arity) a f g o why why' = one_declaration a.table name arity f g why why'
   one_refused_place (Class name) a f g o (why, place) (why', place') =
-      same_fault f g (one_include a.table (bytes_of text name) f.kind g.kind why why') (place ∙ sym place')
+      same_fault f g (one_include a.table (token_bytes text name) f.kind g.kind why why') (place ∙ sym place')
   one_refused_place (Variable name) a f g o (why, place) (why', place') =
-      same_fault f g (one_variable a.table (bytes_of text name) a.variables f.kind g.kind why why')
+      same_fault f g (one_variable a.table (token_bytes text name) a.variables f.kind g.kind why why')
       (place ∙ sym place')
   one_refused_place (Term byte) a f g o why why' = one_refusal a o byte f g why why'
   one_refused_place (Qualified before name) a f g o (why, place) (why', place') =
-      same_fault f g (one_qualified a (bytes_of text name) before f.kind g.kind why why') (place ∙ sym place')
+      same_fault f g (one_qualified a (token_bytes text name) before f.kind g.kind why why') (place ∙ sym place')
   one_refused_place (ClassOf name) a f g o (why, place) (why', place') =
-      same_fault f g (one_class_of a.table (bytes_of text name) f.kind g.kind why why') (place ∙ sym place')
+      same_fault f g (one_class_of a.table (token_bytes text name) f.kind g.kind why why') (place ∙ sym place')
   one_refused_place (Operation name) a f g o (why, place) (why', place') =
-      same_fault f g (one_operation_refused a (bytes_of text name) f.kind g.kind why why')
+      same_fault f g (one_operation_refused a (token_bytes text name) f.kind g.kind why why')
       (place ∙ sym place')
 
   -- ---- one place after another

@@ -10,13 +10,13 @@ use Rattle.term_lex.proofs.PlainAnswers.{then_err, then_ok}
 use Rattle.term_lex.proofs.ListAnswers.{same_answer}
 use Rattle.def_file.specs.declared.error.FileError.{FileError}
 use Rattle.def_file.specs.declared.error.FileError.TheVariants.{Refused, NoMemory}
-use Rattle.def_file.specs.Reading.{Stands, IsReadAs, IsRefused, IsSkip, IsRead}
+use Rattle.def_file.specs.Reading.{IsSentenceAt, IsReadAs, IsSyntaxRefused, IsSkip, IsReadBy}
 
 -- a refusal at an equal result
-pub read_refused : {A V : Type 0} (G : V → List Lexeme → Type 0) (tree_of : A → V) (text : List ℕ) (at : ℕ) (r : Result (A × ℕ) FileError) (error : FileError) → r ≡ Err error → IsRefused (Some G) text at error → IsRead G tree_of text at r
-read_refused G tree_of text at r error e a = subst (IsRead G tree_of text at) (sym e) a
+pub read_refused : {A V : Type 0} (G : V → List Lexeme → Type 0) (tree_of : A → V) (text : List ℕ) (at : ℕ) (r : Result (A × ℕ) FileError) (error : FileError) → r ≡ Err error → IsSyntaxRefused (Some G) text at error → IsReadBy G tree_of text at r
+read_refused G tree_of text at r error e a = subst (IsReadBy G tree_of text at) (sym e) a
 
-pub skip_refused : (G : List Lexeme → Type 0) (text : List ℕ) (at : ℕ) (r : Result ℕ FileError) (error : FileError) → r ≡ Err error → IsRefused G text at error → IsSkip G text at r
+pub skip_refused : (G : List Lexeme → Type 0) (text : List ℕ) (at : ℕ) (r : Result ℕ FileError) (error : FileError) → r ≡ Err error → IsSyntaxRefused G text at error → IsSkip G text at r
 skip_refused G text at r error e a = subst (IsSkip G text at) (sym e) a
 
 -- from one grammar to another with the same sentences
@@ -28,12 +28,12 @@ module _ {G H : List Lexeme → Type 0} (to : (xs : List Lexeme) → G xs → H 
     within = r.within;
   }
 
-  pub same_refused : (error : FileError) → IsRefused G text at error → IsRefused H text at error
+  pub same_refused : (error : FileError) → IsSyntaxRefused G text at error → IsSyntaxRefused H text at error
   same_refused (Refused f) a = same_answer to from text at (Err f) a
   same_refused NoMemory a = tt
 
 -- one part after another
-pub stands_then : (P Q : List Lexeme → Type 0) (text : List ℕ) (at mid end : ℕ) → Stands P text at mid → Stands Q text mid end → Stands (Then P Q) text at end
+pub stands_then : (P Q : List Lexeme → Type 0) (text : List ℕ) (at mid end : ℕ) → IsSentenceAt P text at mid → IsSentenceAt Q text mid end → IsSentenceAt (Then P Q) text at end
 stands_then P Q text at mid end (xs, s, p) (ys, t, q) = (xs ++ ys, scans_append text at xs ys mid end s t, (xs, ys, refl, p, q))
 
 module _ {H K : List Lexeme → Type 0} {nh nk : Bool} {fh mh fk mk : List Mark} (p : IsPart H nh fh mh) (q : IsPart K nk fk mk) (e : disjoint mh fk ≡ true) (text : List ℕ) (at : ℕ) where
@@ -44,16 +44,16 @@ module _ {H K : List Lexeme → Type 0} {nh nk : Bool} {fh mh fk mk : List Mark}
     within = s.within;
   }
 
-  pub first_refused : (error : FileError) → IsRefused H text at error → IsRefused (Then H K) text at error
+  pub first_refused : (error : FileError) → IsSyntaxRefused H text at error → IsSyntaxRefused (Then H K) text at error
   first_refused (Refused f) a = then_err p q e f a
   first_refused NoMemory a = tt
 
-  pub later_refused : {P : List Lexeme → Type 0} {mid : ℕ} → IsReadAs H P text at mid → (error : FileError) → IsRefused K text mid error → IsRefused (Then H K) text at error
+  pub later_refused : {P : List Lexeme → Type 0} {mid : ℕ} → IsReadAs H P text at mid → (error : FileError) → IsSyntaxRefused K text mid error → IsSyntaxRefused (Then H K) text at error
   later_refused {mid = mid} r (Refused f) a = then_ok p q e mid r.answer (Err f) a
   later_refused r NoMemory a = tt
 
 -- where the next lexeme does not pass a test, no part begins so
-pub stands_apart : (P : List Lexeme → Type 0) (T : Lexeme → Type 0) (text : List ℕ) (at end : ℕ) → (NextIs T text at → ⊥) → Stands P text at end → Stands (λ xs. (BeginsWith T xs → ⊥) × P xs) text at end
+pub stands_apart : (P : List Lexeme → Type 0) (T : Lexeme → Type 0) (text : List ℕ) (at end : ℕ) → (NextIs T text at → ⊥) → IsSentenceAt P text at end → IsSentenceAt (λ xs. (BeginsWith T xs → ⊥) × P xs) text at end
 stands_apart P T text at end never (xs, s, p) = (xs, s, (never_begun xs s, p)) where
   never_begun : (xs : List Lexeme) → Scans text at xs end → BeginsWith T xs → ⊥
   never_begun [] s b = b
@@ -69,7 +69,7 @@ module _ {G : List Lexeme → Type 0} (T : Lexeme → Type 0) (H K : List Lexeme
       within = r.within;
     }
 
-    pub first_choice_refused : (error : FileError) → IsRefused H text at error → IsRefused G text at error
+    pub first_choice_refused : (error : FileError) → IsSyntaxRefused H text at error → IsSyntaxRefused G text at error
     first_choice_refused (Refused f) a = same_answer to from text at (Err f) (first_by Plainly text at T H K begun can next (Err f) a)
     first_choice_refused NoMemory a = tt
 
@@ -83,6 +83,6 @@ module _ {G : List Lexeme → Type 0} (T : Lexeme → Type 0) (H K : List Lexeme
           within = r.within;
         }
 
-    pub second_choice_refused : (error : FileError) → IsRefused K text at error → IsRefused G text at error
+    pub second_choice_refused : (error : FileError) → IsSyntaxRefused K text at error → IsSyntaxRefused G text at error
     second_choice_refused (Refused f) a = same_answer to from text at (Err f) (second_by Plainly text at T H K begun us is other never (Err f) a)
     second_choice_refused NoMemory a = tt

@@ -12,7 +12,7 @@ use Rattle.term_lex.proofs.ListAnswers.{same_part, separated_part, list_part}
 use Rattle.standmath.specs.Terms.{IsSomeTerm}
 use Rattle.standmath.proofs.Terms.{term_marks, term_part}
 use Rattle.def_file.specs.Trees.{Declares, IncludesClasses, InClass, OneOf, Equates, IncludesOperations}
-use Rattle.def_file.specs.Grammar.{IsToken, IsWordAs, IsTermFrom, IsInclude, IsNames, IsIncludeOf, IsDeclared, IsSymbolItem, IsNamed, IsVariables, IsTerms, IsInClass, IsOneOf, IsRestriction, IsCondition, IsConditions, IsWhere, IsEquation, IsItem, IsFile}
+use Rattle.def_file.specs.Grammar.{IsToken, IsWordAs, IsTermFrom, IsInclude, IsNames, IsIncludeOf, IsDeclaration, IsSymbolItem, IsNameList, IsVariables, IsTerms, IsInClass, IsOneOf, IsRestriction, IsCondition, IsConditions, IsWhere, IsEquation, IsItem, IsFile}
 
 -- a token of a kind
 pub token_to : {k : TokenKind} (xs : List Lexeme) → One (IsKind k) xs → Some (IsToken k) xs
@@ -78,20 +78,20 @@ include_begun xs ((t, ns), (front, back, e, i, n)) =
 abbrev pub DeclaredParts : List Lexeme → Type 0
 DeclaredParts xs = Then (Some (IsToken Name)) (Then (One (IsKind Colon)) (Some (IsToken Numeral))) xs
 
-pub declared_to : (xs : List Lexeme) → DeclaredParts xs → Some IsDeclared xs
+pub declared_to : (xs : List Lexeme) → DeclaredParts xs → Some IsDeclaration xs
 declared_to xs (f, b, e, (n, tn), (g, c, e', colon, (a, ta))) = ((n, a), (f, b, e, tn, (g, c, e', colon, ta)))
 
-pub declared_from : (xs : List Lexeme) → Some IsDeclared xs → DeclaredParts xs
+pub declared_from : (xs : List Lexeme) → Some IsDeclaration xs → DeclaredParts xs
 declared_from xs ((n, a), (f, b, e, tn, (g, c, e', colon, ta))) = (f, b, e, (n, tn), (g, c, e', colon, (a, ta)))
 
-pub declared_part : IsPart (Some IsDeclared) false (Kind Name ∷ []) []
+pub declared_part : IsPart (Some IsDeclaration) false (Kind Name ∷ []) []
 declared_part = same_part declared_to declared_from (then_part (token_part Name) (then_part (kind_part Colon) (token_part Numeral) refl) refl)
 
-pub symbol_item_to : (xs : List Lexeme) → Either IsInclude (Some IsIncludeOf) (Some IsDeclared) xs → Some IsSymbolItem xs
+pub symbol_item_to : (xs : List Lexeme) → Either IsInclude (Some IsIncludeOf) (Some IsDeclaration) xs → Some IsSymbolItem xs
 symbol_item_to xs (inl ((t, ns), i)) = (IncludesClasses t ns, i)
 symbol_item_to xs (inr (other, ((n, a), d))) = (Declares n a, (other, d))
 
-pub symbol_item_from : (xs : List Lexeme) → Some IsSymbolItem xs → Either IsInclude (Some IsIncludeOf) (Some IsDeclared) xs
+pub symbol_item_from : (xs : List Lexeme) → Some IsSymbolItem xs → Either IsInclude (Some IsIncludeOf) (Some IsDeclaration) xs
 symbol_item_from xs (IncludesClasses t ns, i) = inl ((t, ns), i)
 symbol_item_from xs (Declares n a, (other, d)) = inr (other, ((n, a), d))
 
@@ -106,13 +106,13 @@ symbols_part = list_part (IsKind Semicolon) (IsKind Dot) IsSymbolItem (Kind Semi
 abbrev pub NamedParts : List Lexeme → Type 0
 NamedParts xs = Then (Some IsNames) (One (IsKind Colon)) xs
 
-pub named_to : (xs : List Lexeme) → NamedParts xs → Some IsNamed xs
+pub named_to : (xs : List Lexeme) → NamedParts xs → Some IsNameList xs
 named_to xs (f, b, e, (ns, n), c) = (ns, (f, b, e, n, c))
 
-pub named_from : (xs : List Lexeme) → Some IsNamed xs → NamedParts xs
+pub named_from : (xs : List Lexeme) → Some IsNameList xs → NamedParts xs
 named_from xs (ns, (f, b, e, n, c)) = (f, b, e, (ns, n), c)
 
-pub named_part : IsPart (Some IsNamed) false (Kind Name ∷ []) []
+pub named_part : IsPart (Some IsNameList) false (Kind Name ∷ []) []
 named_part = same_part named_to named_from (then_part names_part (kind_part Colon) refl)
 
 pub one_begun : (Test : Lexeme → Type 0) (xs : List Lexeme) → One Test xs → BeginsWith Test xs
@@ -120,12 +120,12 @@ one_begun Test [] (y, e, t) = cc
 one_begun Test (x ∷ xs) (y, e, t) = let same : y ≡ x = cc in subst Test same t
 
 -- [ names ] ":"
-pub variables_to : (xs : List Lexeme) → Either (IsKind Colon) (One (IsKind Colon)) (Some IsNamed) xs → Some IsVariables xs
+pub variables_to : (xs : List Lexeme) → Either (IsKind Colon) (One (IsKind Colon)) (Some IsNameList) xs → Some IsVariables xs
 variables_to xs (inl c) = ([], c)
 variables_to xs (inr (other, ([], (front, back, e, n, c)))) = absurd n
 variables_to xs (inr (other, (v ∷ vs, n))) = (v ∷ vs, n)
 
-pub variables_from : (xs : List Lexeme) → Some IsVariables xs → Either (IsKind Colon) (One (IsKind Colon)) (Some IsNamed) xs
+pub variables_from : (xs : List Lexeme) → Some IsVariables xs → Either (IsKind Colon) (One (IsKind Colon)) (Some IsNameList) xs
 variables_from xs ([], c) = inl c
 variables_from xs (v ∷ vs, n) = inr (not_begun (Kind Colon) (λ x k. k) named_part refl xs (v ∷ vs, n), (v ∷ vs, n))
 

@@ -18,7 +18,7 @@ use Rattle.written_terms.specs.declared.error.ReadError.TheVariants.{Refused, No
 use Rattle.standmath.proofs.Terms.{term_part}
 use Rattle.def_file.specs.Errors.{of_read}
 use Rattle.def_file.specs.Grammar.{IsToken, IsWordAs, IsTermFrom}
-use Rattle.def_file.specs.Reading.{IsReadAs, IsRefused}
+use Rattle.def_file.specs.Reading.{IsReadAs, IsSyntaxRefused}
 use Rattle.def_file.proofs.Rules.{token_to, token_from, word_to, word_from, term_to, term_from}
 
 module _ (text : List ℕ) (at : ℕ) where
@@ -76,7 +76,7 @@ module _ (text : List ℕ) (at : ℕ) where
   pub term_bad : (f : Fault) → FirstToken text at (Err f) → IsAnswer (Some IsTermFrom) text at (Err f)
   term_bad f bad = same_answer term_to term_from text at (Err f) (first_bad term_part f bad)
 
-  pub term_refused : (e : ReadError) → terms.IfRefused (λ fault. IsAnswer IsSomeTerm text at (Err fault)) e → IsRefused (Some IsTermFrom) text at (of_read e)
+  pub term_refused : (e : ReadError) → terms.IfRefused (λ fault. IsAnswer IsSomeTerm text at (Err fault)) e → IsSyntaxRefused (Some IsTermFrom) text at (of_read e)
   term_refused (Refused f) a = same_answer term_to term_from text at (Err f) a
   term_refused NoMemory a = tt
 

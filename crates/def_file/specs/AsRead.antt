@@ -82,7 +82,8 @@ answer_read (Err e) = Err e
 pub record IsLiveWritten (table : Table) (e : Written) : Type 0 where
   pub left : IsLivePattern table e.left
   pub right : IsLivePattern table e.right
-  pub choices : AllByRecursion (λ (q : Qualifier). AllByRecursion (IsLivePattern table) q.choices) e.qualifiers
+  pub choices : AllByRecursion (λ (q : Qualifier). AllByRecursion
+      (IsLivePattern table) q.choices) e.qualifiers
 
 -- each number in the item is live
 abbrev pub IsLiveItem : Table → Item → Type 0

@@ -17,7 +17,7 @@ use Rattle.def_file.specs.Trees.{Restriction, InClass, OneOf, Condition, Sides, 
 use Rattle.def_file.specs.Pairs.{AreRelated}
 use Rattle.def_file.specs.Grammar.{IsSomeFile, IsFileText}
 use Rattle.def_file.specs.Operations.{operation_name}
-use Rattle.def_file.specs.Names.{Known, nothing_known, places_of, bytes_of, TakesAll, RefusesFirst}
+use Rattle.def_file.specs.Names.{Known, nothing_known, places_of, token_bytes, TakesAll, RefusesFirst}
 use Rattle.def_file.specs.Sides.{equation_of, IsPattern, all_limits, KeepsAll, PassesFirst}
 
 -- ---- variables in classes
@@ -40,12 +40,13 @@ classed classes c = c
 module _ (text : List ℕ) (known : Known) where
   -- the token is the name of the variable with the number
   abbrev pub NamesVariable : Token → ℕ → Type 0
-  NamesVariable name x = slice_get known.variables x ≡ Some (bytes_of text name)
+  NamesVariable name x = slice_get known.variables x ≡ Some (token_bytes text name)
 
   -- the variable comes first where it is in a class, each with the number of the class; Rest says what comes then
   abbrev pub IsFirstIn : Token → Restriction → (List (ℕ × ℕ) → Type 0) → List (ℕ × ℕ) → Type 0
   IsFirstIn name (InClass class_token) Rest classes =
-      (x : ℕ) × (class : SymbolClass) × (rest : List (ℕ × ℕ)) × NamesVariable name x × (bytes_of text class_token ≡ class_name class)
+      (x : ℕ) × (class : SymbolClass) × (rest : List (ℕ × ℕ)) × NamesVariable name x
+      × (token_bytes text class_token ≡ class_name class)
       × (classes ≡ (x, class_number class) ∷ rest) × Rest rest
   IsFirstIn name (OneOf terms) Rest classes = Rest classes
 
@@ -57,7 +58,8 @@ module _ (text : List ℕ) (known : Known) where
   module _ (classes : List (ℕ × ℕ)) where
     -- the term from the byte on is this pattern, in which variables stand with their classes
     abbrev pub MeansSide : ℕ → Tree (PatternCell ReadHead) → Type 0
-    MeansSide byte pattern = (plain : Tree (PatternCell ReadHead)) × IsPattern text known byte plain × (pattern ≡ map_heads (classed classes) plain)
+    MeansSide byte pattern = (plain : Tree (PatternCell ReadHead)) × IsPattern text known byte plain
+        × (pattern ≡ map_heads (classed classes) plain)
 
     -- what a variable may stand for: the alternatives, of which a class has none
     abbrev pub MeanChoices : Restriction → List (Tree (PatternCell ReadHead)) → Type 0
@@ -81,17 +83,21 @@ module _ (text : List ℕ) (known : Known) where
 
   -- the name is that of an equation class, which the item with the number includes
   abbrev pub MeansOperation : ℕ → Token → ReadNumbered → Type 0
-  MeansOperation number name numbered = (op : Op) × (bytes_of text name ≡ operation_name op) × (numbered ≡ record { item = Class op name.from; number = number })
+  MeansOperation number name numbered = (op : Op) × (token_bytes text name ≡ operation_name op)
+      × (numbered ≡ record { item = Class op name.from; number = number })
 
   -- the written item with the number means these items
   abbrev pub MeansItem : ℕ → EquationItem → List ReadNumbered → Type 0
-  MeansItem number (Equates sides) numbered = (equation : ReadEquation) × MeansEquation sides equation × (numbered ≡ record { item = Equation equation; number = number } ∷ [])
-  MeansItem number (IncludesOperations include names) numbered = AreRelated (MeansOperation number) names numbered
+  MeansItem number (Equates sides) numbered = (equation : ReadEquation) × MeansEquation sides equation
+      × (numbered ≡ record { item = Equation equation; number = number } ∷ [])
+  MeansItem number (IncludesOperations include names) numbered =
+      AreRelated (MeansOperation number) names numbered
 
   -- the written items from the number on mean these items
   abbrev pub MeanItems : ℕ → List EquationItem → List ReadNumbered → Type 0
   MeanItems number [] numbered = numbered ≡ []
-  MeanItems number (i ∷ is) numbered = (front : List ReadNumbered) × (back : List ReadNumbered) × (numbered ≡ front ++ back) × MeansItem number i front × MeanItems (number + 1) is back
+  MeanItems number (i ∷ is) numbered = (front : List ReadNumbered) × (back : List ReadNumbered)
+      × (numbered ≡ front ++ back) × MeansItem number i front × MeanItems (number + 1) is back
 
 -- ---- the phases
 
@@ -100,8 +106,8 @@ abbrev pub most_bytes : ℕ
 most_bytes = 2 ^ 24
 
 -- the equations of a file
-abbrev pub equations_of : File → List Sides
-equations_of file = flat_map equation_of file.items
+abbrev pub sides_of : File → List Sides
+sides_of file = flat_map equation_of file.items
 
 -- the file has no fault, and says these definitions
 pub record Says (text : List ℕ) (definitions : ReadDefinitions) : Type 0 where
@@ -110,7 +116,7 @@ pub record Says (text : List ℕ) (definitions : ReadDefinitions) : Type 0 where
   pub reads : IsFileText text file
   pub known : Known
   pub names : TakesAll text nothing_known (places_of file) known
-  pub limits : KeepsAll text known (all_limits 0 (equations_of file))
+  pub limits : KeepsAll text known (all_limits 0 (sides_of file))
   pub declared : definitions.names ≡ known.table
   pub variables : definitions.variables ≡ known.variables
   pub items : MeanItems text known 1 file.items definitions.items
@@ -127,13 +133,14 @@ pub record HasSideFault (text : List ℕ) (fault : Fault) : Type 0 where
   pub reads : IsFileText text file
   pub known : Known
   pub names : TakesAll text nothing_known (places_of file) known
-  pub passed : PassesFirst text known (all_limits 0 (equations_of file)) fault
+  pub passed : PassesFirst text known (all_limits 0 (sides_of file)) fault
 
 -- the first fault of the first phase that has one: the length, the reading, the names and the sides
 abbrev pub IsFileFault : List ℕ → Fault → Type 0
 IsFileFault text fault =
     ((most_bytes < length text) × (fault ≡ record { kind = FileLong; byte = most_bytes }))
-    ⊎ ((length text ≤ most_bytes) × (IsFirstFault Plainly IsSomeFile text 0 fault ⊎ (HasNameFault text fault ⊎ HasSideFault text fault)))
+    ⊎ ((length text ≤ most_bytes)
+    × (IsFirstFault Plainly IsSomeFile text 0 fault ⊎ (HasNameFault text fault ⊎ HasSideFault text fault)))
 
 -- what reading a file answers
 abbrev pub IsDefinitions : List ℕ → Result ReadDefinitions Fault → Type 0

@@ -34,22 +34,22 @@ abbrev pub IsIncludeOf : Token × List Token → List Lexeme → Type 0
 IsIncludeOf include xs = Then (IsWordAs (codes "include") include.0) (IsNames include.1) xs
 
 -- name ":" numeral
-abbrev pub IsDeclared : Token × Token → List Lexeme → Type 0
-IsDeclared d xs = Then (IsToken Name d.0) (Then (One (IsKind Colon)) (IsToken Numeral d.1)) xs
+abbrev pub IsDeclaration : Token × Token → List Lexeme → Type 0
+IsDeclaration d xs = Then (IsToken Name d.0) (Then (One (IsKind Colon)) (IsToken Numeral d.1)) xs
 
 -- a declaration or an include; `include` at the beginning is always the word
 abbrev pub IsSymbolItem : SymbolItem → List Lexeme → Type 0
-IsSymbolItem (Declares name arity) xs = (BeginsWith IsInclude xs → ⊥) × IsDeclared (name, arity) xs
+IsSymbolItem (Declares name arity) xs = (BeginsWith IsInclude xs → ⊥) × IsDeclaration (name, arity) xs
 IsSymbolItem (IncludesClasses include names) xs = IsIncludeOf (include, names) xs
 
 -- name { "," name } ":"
-abbrev pub IsNamed : List Token → List Lexeme → Type 0
-IsNamed names xs = Then (IsNames names) (One (IsKind Colon)) xs
+abbrev pub IsNameList : List Token → List Lexeme → Type 0
+IsNameList names xs = Then (IsNames names) (One (IsKind Colon)) xs
 
 -- [ name { "," name } ] ":"
 abbrev pub IsVariables : List Token → List Lexeme → Type 0
 IsVariables [] xs = One (IsKind Colon) xs
-IsVariables (v ∷ vs) xs = IsNamed (v ∷ vs) xs
+IsVariables (v ∷ vs) xs = IsNameList (v ∷ vs) xs
 
 -- term { "or" term }
 abbrev pub IsTerms : List ℕ → List Lexeme → Type 0
@@ -62,7 +62,8 @@ IsInClass name xs = Then (One (IsWord (codes "in"))) (IsToken Name name) xs
 -- "either" term { "or" term } "end" "or"
 abbrev pub IsOneOf : List ℕ → List Lexeme → Type 0
 IsOneOf terms xs =
-    Then (One (IsWord (codes "either"))) (Then (IsTerms terms) (Then (One (IsWord (codes "end"))) (One (IsWord (codes "or"))))) xs
+    Then (One (IsWord (codes "either")))
+    (Then (IsTerms terms) (Then (One (IsWord (codes "end"))) (One (IsWord (codes "or"))))) xs
 
 -- a class or alternatives
 abbrev pub IsRestriction : Restriction → List Lexeme → Type 0
@@ -71,12 +72,15 @@ IsRestriction (OneOf terms) xs = IsOneOf terms xs
 
 -- name "is" restriction
 abbrev pub IsCondition : Condition → List Lexeme → Type 0
-IsCondition c xs = Then (IsToken Name c.variable) (Then (One (IsWord (codes "is"))) (IsRestriction c.restriction)) xs
+IsCondition c xs =
+    Then (IsToken Name c.variable) (Then (One (IsWord (codes "is"))) (IsRestriction c.restriction)) xs
 
 -- "where" condition { "," condition } "end" "where"
 abbrev pub IsConditions : List Condition → List Lexeme → Type 0
 IsConditions cs xs =
-    Then (One (IsWord (codes "where"))) (Then (Separated (IsKind Comma) IsCondition cs) (Then (One (IsWord (codes "end"))) (One (IsWord (codes "where"))))) xs
+    Then (One (IsWord (codes "where")))
+    (Then (Separated (IsKind Comma) IsCondition cs)
+    (Then (One (IsWord (codes "end"))) (One (IsWord (codes "where"))))) xs
 
 -- [ "where" condition { "," condition } "end" "where" ]
 abbrev pub IsWhere : List Condition → List Lexeme → Type 0
@@ -86,7 +90,8 @@ IsWhere (c ∷ cs) xs = IsConditions (c ∷ cs) xs
 -- term "=" term [ "where" .. ]
 abbrev pub IsEquation : Sides → List Lexeme → Type 0
 IsEquation sides xs =
-    Then (IsTermFrom sides.left) (Then (One (IsKind Equals)) (Then (IsTermFrom sides.right) (IsWhere sides.conditions))) xs
+    Then (IsTermFrom sides.left) (Then (One (IsKind Equals))
+    (Then (IsTermFrom sides.right) (IsWhere sides.conditions))) xs
 
 -- an equation or an include; `include` at the beginning is always the word
 abbrev pub IsItem : EquationItem → List Lexeme → Type 0

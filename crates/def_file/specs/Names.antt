@@ -44,7 +44,9 @@ restriction_places (OneOf terms) = map Term terms
 -- the places of qualifiers, behind those before them in the equation
 abbrev pub condition_places : List Token → List Condition → List Place
 condition_places before [] = []
-condition_places before (c ∷ cs) = Qualified before c.variable ∷ (restriction_places c.restriction ++ condition_places (before ++ c.variable ∷ []) cs)
+condition_places before (c ∷ cs) =
+    Qualified before c.variable
+    ∷ (restriction_places c.restriction ++ condition_places (before ++ c.variable ∷ []) cs)
 
 -- the places of an equation
 abbrev pub equation_places : Sides → List Place
@@ -57,7 +59,8 @@ item_places (IncludesOperations include names) = map Operation names
 
 -- the places of a file
 abbrev pub places_of : File → List Place
-places_of file = flat_map symbol_places file.symbols ++ map Variable file.variables ++ flat_map item_places file.items
+places_of file =
+    flat_map symbol_places file.symbols ++ map Variable file.variables ++ flat_map item_places file.items
 
 -- ---- what is known of names
 
@@ -73,56 +76,72 @@ nothing_known = record { table = no_names; variables = []; operations = [] }
 
 module _ (text : List ℕ) where
   -- the bytes of a token
-  abbrev pub bytes_of : Token → List ℕ
-  bytes_of t = slice_range text t.from t.to
+  abbrev pub token_bytes : Token → List ℕ
+  token_bytes t = slice_range text t.from t.to
 
   -- what is at the place is no fault, and this is known behind it
   abbrev pub Takes : Known → Place → Known → Type 0
-  Takes old (Symbol name arity) new = (number : ℕ) × Declares old.table new.table (bytes_of name) (numeral_value (bytes_of arity)) number × (new ≡ record old { table = new.table })
-  Takes old (Class name) new = AddsClass old.table new.table (bytes_of name) × (new ≡ record old { table = new.table })
-  Takes old (Variable name) new = AddsVariable old.table old.variables new.variables (bytes_of name) × (new ≡ record old { variables = new.variables })
+  Takes old (Symbol name arity) new = (number : ℕ)
+      × Declares old.table new.table (token_bytes name) (numeral_value (token_bytes arity)) number
+      × (new ≡ record old { table = new.table })
+  Takes old (Class name) new = AddsClass old.table new.table (token_bytes name)
+      × (new ≡ record old { table = new.table })
+  Takes old (Variable name) new = AddsVariable old.table old.variables new.variables (token_bytes name)
+      × (new ≡ record old { variables = new.variables })
   Takes old (Term byte) new =
       (pattern : Tree (PatternCell ReadHead)) × (end : ℕ)
       × ReadsPattern old.table old.variables text byte pattern end × (new ≡ old)
-  Takes old (Qualified before name) new = Contains old.variables (bytes_of name) × (¬ Contains (map bytes_of before) (bytes_of name)) × (new ≡ old)
-  Takes old (ClassOf name) new = (class : SymbolClass) × (bytes_of name ≡ class_name class) × Includes old.table class × (new ≡ old)
+  Takes old (Qualified before name) new = Contains old.variables (token_bytes name)
+      × (¬ Contains (map token_bytes before) (token_bytes name)) × (new ≡ old)
+  Takes old (ClassOf name) new = (class : SymbolClass) × (token_bytes name ≡ class_name class)
+      × Includes old.table class × (new ≡ old)
   Takes old (Operation name) new =
-      (op : Op) × (bytes_of name ≡ operation_name op) × (¬ Contains old.operations op) × HasNeeds old.table op × (new ≡ record old { operations = old.operations ++ op ∷ [] })
+      (op : Op) × (token_bytes name ≡ operation_name op) × (¬ Contains old.operations op)
+      × HasNeeds old.table op × (new ≡ record old { operations = old.operations ++ op ∷ [] })
 
   -- what is wrong with a declaration: its name, or else its arity
   abbrev pub RefusesSymbol : Table → Token → Token → Fault → Type 0
   RefusesSymbol table name arity fault =
-      RefusesDeclaration table (bytes_of name) (numeral_value (bytes_of arity)) fault.kind
-      × (((fault.kind ≡ Twice) × (fault.byte ≡ name.from)) ⊎ ((fault.kind ≡ ArityPast) × (fault.byte ≡ arity.from)))
+      RefusesDeclaration table (token_bytes name) (numeral_value (token_bytes arity)) fault.kind
+      × (((fault.kind ≡ Twice) × (fault.byte ≡ name.from))
+      ⊎ ((fault.kind ≡ ArityPast) × (fault.byte ≡ arity.from)))
 
   -- what is wrong with the name before `is`
   abbrev pub RefusesQualified : Known → List Token → List ℕ → FaultKind → Type 0
   RefusesQualified known before name QualifiedUnknown = ¬ Contains known.variables name
-  RefusesQualified known before name QualifiedTwice = Contains known.variables name × Contains (map bytes_of before) name
+  RefusesQualified known before name QualifiedTwice = Contains known.variables name
+      × Contains (map token_bytes before) name
   RefusesQualified known before name kind = ⊥
 
   -- what is wrong with the name behind `is in`
   abbrev pub RefusesClassOf : Table → List ℕ → FaultKind → Type 0
   RefusesClassOf table name UnknownClass = (class : SymbolClass) → name ≢ class_name class
-  RefusesClassOf table name NotIncluded = (class : SymbolClass) × (name ≡ class_name class) × (¬ Includes table class)
+  RefusesClassOf table name NotIncluded = (class : SymbolClass) × (name ≡ class_name class)
+      × (¬ Includes table class)
   RefusesClassOf table name kind = ⊥
 
   -- what is wrong with an equation class: no class has the name, or it is included, or what it needs is not
   abbrev pub RefusesOperation : Known → List ℕ → FaultKind → Type 0
   RefusesOperation known name UnknownEquationClass = (op : Op) → name ≢ operation_name op
   RefusesOperation known name Twice = (op : Op) × (name ≡ operation_name op) × Contains known.operations op
-  RefusesOperation known name SchemaNeeds = (op : Op) × (name ≡ operation_name op) × (¬ Contains known.operations op) × (¬ HasNeeds known.table op)
+  RefusesOperation known name SchemaNeeds = (op : Op) × (name ≡ operation_name op)
+      × (¬ Contains known.operations op) × (¬ HasNeeds known.table op)
   RefusesOperation known name kind = ⊥
 
   -- what is at the place is this fault
   abbrev pub Refuses : Known → Place → Fault → Type 0
   Refuses known (Symbol name arity) fault = RefusesSymbol known.table name arity fault
-  Refuses known (Class name) fault = RefusesInclude known.table (bytes_of name) fault.kind × (fault.byte ≡ name.from)
-  Refuses known (Variable name) fault = RefusesVariable known.table known.variables (bytes_of name) fault.kind × (fault.byte ≡ name.from)
+  Refuses known (Class name) fault = RefusesInclude known.table (token_bytes name) fault.kind
+      × (fault.byte ≡ name.from)
+  Refuses known (Variable name) fault =
+      RefusesVariable known.table known.variables (token_bytes name) fault.kind × (fault.byte ≡ name.from)
   Refuses known (Term byte) fault = RefusesPattern known.table known.variables text byte fault
-  Refuses known (Qualified before name) fault = RefusesQualified known before (bytes_of name) fault.kind × (fault.byte ≡ name.from)
-  Refuses known (ClassOf name) fault = RefusesClassOf known.table (bytes_of name) fault.kind × (fault.byte ≡ name.from)
-  Refuses known (Operation name) fault = RefusesOperation known (bytes_of name) fault.kind × (fault.byte ≡ name.from)
+  Refuses known (Qualified before name) fault = RefusesQualified known before (token_bytes name) fault.kind
+      × (fault.byte ≡ name.from)
+  Refuses known (ClassOf name) fault = RefusesClassOf known.table (token_bytes name) fault.kind
+      × (fault.byte ≡ name.from)
+  Refuses known (Operation name) fault = RefusesOperation known (token_bytes name) fault.kind
+      × (fault.byte ≡ name.from)
 
   -- none of the places has a fault, and this is known behind them
   abbrev pub TakesAll : Known → List Place → Known → Type 0
@@ -132,4 +151,5 @@ module _ (text : List ℕ) where
   -- the first place that has a fault has this one
   abbrev pub RefusesFirst : Known → List Place → Fault → Type 0
   RefusesFirst known [] fault = ⊥
-  RefusesFirst known (p ∷ ps) fault = Refuses known p fault ⊎ ((next : Known) × Takes known p next × RefusesFirst next ps fault)
+  RefusesFirst known (p ∷ ps) fault = Refuses known p fault
+      ⊎ ((next : Known) × Takes known p next × RefusesFirst next ps fault)

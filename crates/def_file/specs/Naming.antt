@@ -11,7 +11,7 @@ use Rattle.def_file.specs.declared.naming.Named.{Named}
 use Rattle.def_file.specs.Trees.{File}
 use Rattle.def_file.specs.Grammar.{IsFileText}
 use Rattle.def_file.specs.Sides.{all_limits, AnswersLimits}
-use Rattle.def_file.specs.Definitions.{equations_of, MeanItems}
+use Rattle.def_file.specs.Definitions.{sides_of, MeanItems}
 use Rattle.def_file.specs.AsRead.{numbered_read, AreLiveItems}
 use Rattle.def_file.specs.Errors.{IfRefused}
 use Rattle.def_file.specs.Names.{Place, Symbol, Class, Variable, Term, Qualified, ClassOf, Operation, Known, nothing_known, places_of, TakesAll, RefusesFirst}
@@ -37,7 +37,8 @@ IsTaking text old places new (Err error) = IfRefused (RefusesFirst text old plac
 
 -- what is known by a table of symbols, with variables and equation classes
 abbrev pub knowing : Table → List (List ℕ) → List Op → Known
-knowing table variables operations = record { table = names_of table; variables = variables; operations = operations }
+knowing table variables operations =
+    record { table = names_of table; variables = variables; operations = operations }
 
 -- the symbols are known, and nothing else
 abbrev pub only_symbols : Table → Known
@@ -65,6 +66,7 @@ pub record IsNamed (text : List ℕ) (file : File) (named : Named) : Type 0 wher
   pub short : length text ≤ 2 ^ 24
   pub reads : IsFileText text file
   pub names : TakesAll text nothing_known (places_of file) (known_of named)
-  pub items : MeanItems text (known_of named) 1 file.items (map (numbered_read named.symbols) named.taken.items.items)
+  pub items : MeanItems text (known_of named) 1 file.items
+      (map (numbered_read named.symbols) named.taken.items.items)
   pub live : AreLiveItems named.symbols named.taken.items.items
-  pub limits : AnswersLimits text (known_of named) (all_limits 0 (equations_of file)) named.taken.fault
+  pub limits : AnswersLimits text (known_of named) (all_limits 0 (sides_of file)) named.taken.fault

@@ -42,9 +42,9 @@ all_limits before [] = []
 all_limits before (s ∷ ss) = limits_of before s ++ all_limits (before + 1) ss
 
 -- a symbol stands at the root
-abbrev pub IsApplication : Tree (PatternCell ReadHead) → Type 0
-IsApplication (node (fixed (symbol n)) args) = Unit {0}
-IsApplication pattern = ⊥
+abbrev pub IsSymbolApplied : Tree (PatternCell ReadHead) → Type 0
+IsSymbolApplied (node (fixed (symbol n)) args) = Unit {0}
+IsSymbolApplied pattern = ⊥
 
 module _ (text : List ℕ) (known : Known) where
   -- the term from the byte on is this pattern
@@ -52,26 +52,31 @@ module _ (text : List ℕ) (known : Known) where
   IsPattern byte pattern = (end : ℕ) × ReadsPattern known.table known.variables text byte pattern end
 
   -- the limit is kept
-  abbrev pub Keeps : Limit → Type 0
-  Keeps (Equations before byte) = before < 2048
-  Keeps (Application byte) = (pattern : Tree (PatternCell ReadHead)) × IsPattern byte pattern × IsApplication pattern
-  Keeps (Cells most byte) = (pattern : Tree (PatternCell ReadHead)) × IsPattern byte pattern × (size pattern ≤ most)
+  abbrev pub KeepsLimit : Limit → Type 0
+  KeepsLimit (Equations before byte) = before < 2048
+  KeepsLimit (Application byte) = (pattern : Tree (PatternCell ReadHead)) × IsPattern byte pattern
+      × IsSymbolApplied pattern
+  KeepsLimit (Cells most byte) = (pattern : Tree (PatternCell ReadHead)) × IsPattern byte pattern
+      × (size pattern ≤ most)
 
   -- the limit is passed
   abbrev pub Passes : Limit → Fault → Type 0
-  Passes (Equations before byte) fault = (2048 ≤ before) × (fault ≡ record { kind = EquationsPast; byte = byte })
-  Passes (Application byte) fault = (pattern : Tree (PatternCell ReadHead)) × IsPattern byte pattern × (¬ IsApplication pattern) × (fault ≡ record { kind = LeftNotApplication; byte = byte })
-  Passes (Cells most byte) fault = (pattern : Tree (PatternCell ReadHead)) × IsPattern byte pattern × (most < size pattern) × (fault ≡ record { kind = SideLong; byte = byte })
+  Passes (Equations before byte) fault = (2048 ≤ before)
+      × (fault ≡ record { kind = EquationsPast; byte = byte })
+  Passes (Application byte) fault = (pattern : Tree (PatternCell ReadHead)) × IsPattern byte pattern
+      × (¬ IsSymbolApplied pattern) × (fault ≡ record { kind = LeftNotApplication; byte = byte })
+  Passes (Cells most byte) fault = (pattern : Tree (PatternCell ReadHead)) × IsPattern byte pattern
+      × (most < size pattern) × (fault ≡ record { kind = SideLong; byte = byte })
 
   -- all limits are kept
   abbrev pub KeepsAll : List Limit → Type 0
   KeepsAll [] = Unit {0}
-  KeepsAll (l ∷ ls) = Keeps l × KeepsAll ls
+  KeepsAll (l ∷ ls) = KeepsLimit l × KeepsAll ls
 
   -- the first limit that is passed gives this fault
   abbrev pub PassesFirst : List Limit → Fault → Type 0
   PassesFirst [] fault = ⊥
-  PassesFirst (l ∷ ls) fault = Passes l fault ⊎ (Keeps l × PassesFirst ls fault)
+  PassesFirst (l ∷ ls) fault = Passes l fault ⊎ (KeepsLimit l × PassesFirst ls fault)
 
   -- the fault of the first limit that is passed, or none where all are kept
   abbrev pub AnswersLimits : List Limit → Option Fault → Type 0

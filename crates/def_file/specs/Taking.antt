@@ -25,7 +25,7 @@ use Rattle.def_file.specs.AsRead.{equation_read, IsLiveWritten}
 use Rattle.def_file.specs.Pairs.{AreRelated}
 use Rattle.def_file.specs.Operations.{operation_name}
 use Rattle.def_file.specs.Trees.{Restriction, InClass, OneOf, Sides, EquationItem, Equates, IncludesOperations}
-use Rattle.def_file.specs.Names.{Known, bytes_of}
+use Rattle.def_file.specs.Names.{Known, token_bytes}
 use Rattle.def_file.specs.Naming.{knowing}
 use Rattle.def_file.specs.Sides.{IsPattern, limits_of, AnswersLimits}
 use Rattle.def_file.specs.Definitions.{classed, NamesVariable, MeansEquation}
@@ -37,14 +37,14 @@ Lasts P table variables =
 
 module _ (text : List ℕ) (known : Known) (table : Table) where
   -- the term from the byte on is this pattern, as the table reads it, and each number in it is live
-  pub record IsTaken (byte : ℕ) (pattern : Tree (PatternCell Head)) : Type 0 where
+  pub record IsSideTaken (byte : ℕ) (pattern : Tree (PatternCell Head)) : Type 0 where
     pub means : IsPattern text known byte (read_pattern table pattern)
     pub live : IsLivePattern table pattern
 
   -- what a variable may stand for: the class of that name, or the patterns of these terms
   abbrev pub TakesChoice : Restriction → Choice → Type 0
-  TakesChoice (InClass name) (choice.InClass class) = bytes_of text name ≡ class_name class
-  TakesChoice (OneOf terms) (choice.OneOf patterns) = AreRelated IsTaken terms patterns.items
+  TakesChoice (InClass name) (choice.InClass class) = token_bytes text name ≡ class_name class
+  TakesChoice (OneOf terms) (choice.OneOf patterns) = AreRelated IsSideTaken terms patterns.items
   TakesChoice written taken = ⊥
 
   -- the variable of that name, and what it may stand for
@@ -55,12 +55,13 @@ module _ (text : List ℕ) (known : Known) (table : Table) where
 
   -- the two sides and the conditions
   pub record TakesEquation (sides : Sides) (taken : TakenEquation) : Type 0 where
-    pub left : IsTaken sides.left taken.left
-    pub right : IsTaken sides.right taken.right
+    pub left : IsSideTaken sides.left taken.left
+    pub right : IsSideTaken sides.right taken.right
     pub conditions : AreRelated (λ c t. TakesCondition c.variable c.restriction t) sides.conditions taken.conditions.items
 
   -- a written equation with the first limit that it passes, where so many stand before it
-  pub record TakesWritten (before : ℕ) (sides : Sides) (equation : Written) (fault : Option Fault) : Type 0 where
+  pub record TakesWritten (before : ℕ) (sides : Sides) (equation : Written)
+      (fault : Option Fault) : Type 0 where
     pub means : MeansEquation text known sides (equation_read table equation)
     pub live : IsLiveWritten table equation
     pub limits : AnswersLimits text known (limits_of before sides) fault
@@ -69,13 +70,14 @@ module _ (text : List ℕ) (known : Known) (table : Table) where
   abbrev pub TakesItem : ℕ → EquationItem → TakenItem → Type 0
   TakesItem before (Equates sides) (taken.Equates equation fault) = TakesWritten before sides equation fault
   TakesItem before (IncludesOperations include names) (taken.Includes operations) =
-      AreRelated (λ name o. (bytes_of text name ≡ operation_name o.0) × (o.1 ≡ name.from)) names operations.items
+      AreRelated (λ name o. (token_bytes text name ≡ operation_name o.0)
+      × (o.1 ≡ name.from)) names operations.items
   TakesItem before written taken = ⊥
 
 -- a symbol stands at the root, by its number
-abbrev pub HasSymbolRoot : Tree (PatternCell Head) → Type 0
-HasSymbolRoot (node (fixed (Symbol n)) args) = Unit {0}
-HasSymbolRoot pattern = ⊥
+abbrev pub HasDeclaredRoot : Tree (PatternCell Head) → Type 0
+HasDeclaredRoot (node (fixed (Symbol n)) args) = Unit {0}
+HasDeclaredRoot pattern = ⊥
 
 -- ---- variables in classes
 
@@ -95,7 +97,8 @@ choices_of classes (choice.OneOf patterns) = map (map_heads (classed classes)) p
 
 -- the qualifier of a condition
 abbrev pub qualifier_of : List (ℕ × ℕ) → TakenCondition → Qualifier
-qualifier_of classes t = record { variable = t.variable; choices = choices_of classes t.choice; byte = t.byte }
+qualifier_of classes t =
+    record { variable = t.variable; choices = choices_of classes t.choice; byte = t.byte }
 
 -- the equation, each of its variables in its class
 abbrev pub written_of : ℕ → TakenEquation → Written
@@ -119,7 +122,8 @@ first_fault None other = other
 
 -- the items behind one more item with the number
 abbrev pub items_behind : ℕ → List Numbered → TakenItem → List Numbered
-items_behind number items (taken.Equates equation fault) = items ++ record { item = item.Equation equation; number = number } ∷ []
+items_behind number items (taken.Equates equation fault) =
+    items ++ record { item = item.Equation equation; number = number } ∷ []
 items_behind number items (taken.Includes operations) = items ++ map (class_item number) operations.items
 
 -- how many equations stand behind one more item

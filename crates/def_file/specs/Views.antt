@@ -36,4 +36,8 @@ equation_item (items.Includes include names) = IncludesOperations include names.
 
 -- a file
 abbrev pub file : FileValue → File
-file f = record { symbols = map symbol_item f.symbols.items; variables = f.variables.items; items = map equation_item f.items.items }
+file f = record {
+  symbols = map symbol_item f.symbols.items;
+  variables = f.variables.items;
+  items = map equation_item f.items.items;
+}

@@ -200,7 +200,8 @@ impl Items {
 impl Definitions {
     /// The item with that place in the list.
     pub fn item(&self, number: usize) -> Option<&Item>
-        ensures some { IfSome result (λ item. (n : NumberedItem) × (slice_get self.now.items number ≡ Some n) × (n.item ≡ item.now)) }
+        ensures some { IfSome result (λ item. (n : NumberedItem) × (slice_get self.now.items number ≡ Some n)
+            × (n.item ≡ item.now)) }
         ensures none { IsNone result ↔ (length self.now.items ≤ number) }
     {
         let numbered = self.items.get(number)?;

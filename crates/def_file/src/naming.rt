@@ -6,7 +6,7 @@ ghost use Rattle.def_file.specs.Names.{nothing_known, places_of};
 ghost use Rattle.def_file.specs.Naming.{IsNaming, known_of};
 ghost use Rattle.def_file.specs.Sides.{all_limits, AnswersLimits};
 ghost use Rattle.def_file.specs.AsRead.{numbered_read, AreLiveItems};
-ghost use Rattle.def_file.specs.Definitions.{MeanItems, equations_of};
+ghost use Rattle.def_file.specs.Definitions.{MeanItems, sides_of};
 
 mod classes;
 mod conditions;
@@ -46,9 +46,11 @@ pub fn take_names(alloc: Global, text: &[u8], written: &File) -> Result<Named, F
     requires short { length text.now ≤ 2 ^ 24 }
     requires reads { IsFileText text.now (file written.now) }
     ensures naming { IsNaming text.now (file written.now) result }
-    ensures items { IfOk result (λ named. MeanItems text.now (known_of named) 1 (file written.now).items (map (numbered_read named.symbols) named.taken.items.items)) }
+    ensures items { IfOk result (λ named. MeanItems text.now (known_of named) 1 (file written.now).items
+        (map (numbered_read named.symbols) named.taken.items.items)) }
     ensures live { IfOk result (λ named. AreLiveItems named.symbols named.taken.items.items) }
-    ensures limits { IfOk result (λ named. AnswersLimits text.now (known_of named) (all_limits 0 (equations_of (file written.now))) named.taken.fault) }
+    ensures limits { IfOk result (λ named. AnswersLimits text.now (known_of named)
+        (all_limits 0 (sides_of (file written.now))) named.taken.fault) }
 {
     let mut symbols = Symbols::new(alloc);
     take_symbols(text, &written.symbols, &mut symbols)?;

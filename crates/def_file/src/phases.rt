@@ -94,7 +94,8 @@ pub fn read_definitions(
 ///
 /// The first fault of the length and the reading; out of memory.
 pub fn unbuilt_at(alloc: Global, text: &[u8]) -> Result<Option<usize>, FileError>
-    ensures ok { IfOk result (λ byte. (file : WrittenFile) × IsFileText text.now file × (byte ≡ slice_get (unbuilt_of file) 0)) }
+    ensures ok { IfOk result (λ byte. (file : WrittenFile) × IsFileText text.now file
+        × (byte ≡ slice_get (unbuilt_of file) 0)) }
     ensures refused { IfErr result (IfRefused (IsFileFault text.now)) }
 {
     let file = read_short(alloc, text)?;

@@ -2,7 +2,7 @@
 ghost use Rattle.std.specs.Prelude.{◌≤◌, length};
 ghost use Rattle.def_file.specs.Grammar.{IsFile};
 ghost use Rattle.def_file.specs.Views.{file};
-ghost use Rattle.def_file.specs.Reading.{IsRead};
+ghost use Rattle.def_file.specs.Reading.{IsReadBy};
 
 mod conditions;
 mod items;
@@ -23,7 +23,7 @@ use variables::read_variables;
 
 /// The file that the text is, and the place of its end.
 pub fn read_file(alloc: Global, text: &[u8]) -> Result<(File, usize), FileError>
-    ensures { IsRead IsFile file text.now 0 result }
+    ensures { IsReadBy IsFile file text.now 0 result }
 {
     let symbols_at = skip_word(text, 0, b"Symbols")?;
     let (symbols, for_at) = read_symbol_items(alloc, text, symbols_at)?;

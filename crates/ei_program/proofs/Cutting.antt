@@ -8,7 +8,7 @@ use Rattle.ei_program.specs.declared.stop.Stop.TheVariants.{NoMemory, ReadFailed
 use Rattle.ei_program.specs.declared.outcome.Outcome.{Outcome}
 use Rattle.ei_program.specs.declared.outcome.Outcome.TheVariants.{Answered, Questions, BadWords, FileRefused, Broken, TermRefused, Stopped}
 use Rattle.ei_program.specs.Definitions.{Definitions}
-use Rattle.ei_program.specs.Input.{IsRefused}
+use Rattle.ei_program.specs.Input.{HasInputFault}
 use Rattle.ei_program.specs.Run.{TextLeft, InputLeft, TakenLeft}
 use Rattle.ei_program.specs.Cutting.{IsCut}
 
@@ -44,7 +44,7 @@ module _ (budget : ℕ) (d : Definitions) (input : List ℕ) (left : Option (Lis
   whole_left : taken ≡ input → length input ≤ 2 ^ 24 → left ≡ Some [] → (outcome : Outcome) (written : List ℕ) → TextLeft budget d taken outcome written → InputLeft budget d input left outcome written
   whole_left all short end Answered written t = (end, short, subst (λ text. TextLeft budget d text Answered written) all t)
   whole_left all short end Questions written t = (end, short, subst (λ text. TextLeft budget d text Questions written) all t)
-  whole_left all short end (TermRefused fault) written t = (inr (short, subst (λ text. IsRefused d.names text fault) all t.0), t.1)
+  whole_left all short end (TermRefused fault) written t = (inr (short, subst (λ text. HasInputFault d.names text fault) all t.0), t.1)
   whole_left all short end BadWords written t = absurd t
   whole_left all short end (FileRefused fault) written t = absurd t
   whole_left all short end (Broken breaks rules) written t = absurd t

@@ -8,13 +8,13 @@ use Rattle.ei_program.specs.declared.outcome.Outcome.TheVariants.{Answered, Ques
 use Rattle.ei_program.specs.declared.status.Status.{Status}
 use Rattle.ei_program.specs.declared.status.Status.TheVariants as status
 use Rattle.ei_program.specs.Run.{Given, Leaves}
-use Rattle.ei_program.specs.Telling.{IsTold}
+use Rattle.ei_program.specs.Telling.{IsOutcomeTold}
 use Rattle.ei_program.specs.Due.{IsDue, ComesTo}
 use Rattle.ei_program.proofs.OneDue.{due_left}
 
 module _ (given : Given) (left : Option (List ℕ)) where
   -- memory ran out, and that was told
-  no_memory : (old new : Option (List ℕ)) (result : Status) → IsTold (Stopped NoMemory) old new result → (result ≡ status.WriteFailed → ⊥) → result ≡ status.NoMemory
+  no_memory : (old new : Option (List ℕ)) (result : Status) → IsOutcomeTold (Stopped NoMemory) old new result → (result ≡ status.WriteFailed → ⊥) → result ≡ status.NoMemory
   no_memory old new result (inl (inl written)) fine = written.0
   no_memory old new result (inl (inr cut)) fine = absurd (fine cut.0)
   no_memory old new result (inr (inl written)) fine = written.0
@@ -23,7 +23,7 @@ module _ (given : Given) (left : Option (List ℕ)) where
   -- the outcome that the run came to is told as what is due, or memory ran out
   pub comes_to : (outcome : Outcome) (written : List ℕ) → Leaves given left outcome written → (due : Outcome) → IsDue given due
       → (outcome ≡ Stopped ReadFailed → ⊥) → (outcome ≡ Stopped WriteFailed → ⊥)
-      → (old new : Option (List ℕ)) (result : Status) → IsTold outcome old new result → (result ≡ status.WriteFailed → outcome ≢ Stopped WriteFailed → ⊥) → ComesTo due old new result
+      → (old new : Option (List ℕ)) (result : Status) → IsOutcomeTold outcome old new result → (result ≡ status.WriteFailed → outcome ≢ Stopped WriteFailed → ⊥) → ComesTo due old new result
   comes_to (Stopped NoMemory) written l due is no_read no_write old new result told fine = inl (no_memory old new result told (λ e. fine e no_write))
   comes_to (Stopped ReadFailed) written l due is no_read no_write old new result told fine = absurd (no_read refl)
   comes_to (Stopped WriteFailed) written l due is no_read no_write old new result told fine = absurd (no_write refl)

@@ -30,11 +30,11 @@ use Rattle.def_file.specs.AsRead.{ReadEquation, Equation as WrittenEquation, Rea
 use Rattle.def_file.specs.Trees.{Sides, EquationItem, Equates, IncludesOperations}
 use Rattle.def_file.specs.Pairs.{AreRelated}
 use Rattle.def_file.specs.Names.{Known, places_of}
-use Rattle.def_file.specs.Sides.{equation_of, Limit, Application, Cells, limits_of, all_limits, IsApplication, Keeps, KeepsAll}
+use Rattle.def_file.specs.Sides.{equation_of, Limit, Application, Cells, limits_of, all_limits, IsSymbolApplied, KeepsLimit, KeepsAll}
 use Rattle.def_file.specs.Definitions.{classed, MeansSide, MeansEquation, MeansOperation, MeansItem, MeanItems, Says}
 use Rattle.def_file.proofs.Meant.{limits_append}
 use Rattle.def_file.proofs.OneNaming.{AreOnce, distinct_names, pattern_one}
-use Rattle.ei_program.specs.Definitions.{FileEquation, cells_in, equation_in, equations_of, equation_read}
+use Rattle.ei_program.specs.Definitions.{FileEquation, cells_in, equation_in, file_equations, file_equation}
 use Rattle.ei_program.proofs.Meanings.{classed_size, arity_in, meant_arities}
 
 module _ (text : List ℕ) (known : Known) (once : AreOnce known) where
@@ -48,17 +48,17 @@ module _ (text : List ℕ) (known : Known) (once : AreOnce known) where
     pub arities : HasArities (arity_in known.table known.variables) e.rule.left
     pub no_operation : (op : Op) → e.rule.right ≡ operation op → ⊥
 
-  side_fits : (classes : List (ℕ × ℕ)) (byte most : ℕ) (p : Tree (PatternCell ReadHead)) → MeansSide text known classes byte p → Keeps text known (Cells most byte) → size p ≤ most
+  side_fits : (classes : List (ℕ × ℕ)) (byte most : ℕ) (p : Tree (PatternCell ReadHead)) → MeansSide text known classes byte p → KeepsLimit text known (Cells most byte) → size p ≤ most
   side_fits classes byte most p (plain, reads, is) (other, reads', fits) =
       let same : size p ≡ size other = ap size is ∙ classed_size classes plain ∙ ap size (pattern_one text known once byte plain other reads reads') in omega (arith, same, fits)
 
-  symbol_root : (classes : List (ℕ × ℕ)) (p : Tree (PatternCell ReadHead)) → IsApplication p → (s : ℕ) × (head_of (map_heads (classed classes) p) ≡ fixed (symbol s))
+  symbol_root : (classes : List (ℕ × ℕ)) (p : Tree (PatternCell ReadHead)) → IsSymbolApplied p → (s : ℕ) × (head_of (map_heads (classed classes) p) ≡ fixed (symbol s))
   symbol_root classes (node (fixed (symbol n)) ps) is = (n, refl)
   symbol_root classes p is = absurd is
 
-  side_root : (classes : List (ℕ × ℕ)) (byte : ℕ) (p : Tree (PatternCell ReadHead)) → MeansSide text known classes byte p → Keeps text known (Application byte) → (s : ℕ) × (head_of p ≡ fixed (symbol s))
+  side_root : (classes : List (ℕ × ℕ)) (byte : ℕ) (p : Tree (PatternCell ReadHead)) → MeansSide text known classes byte p → KeepsLimit text known (Application byte) → (s : ℕ) × (head_of p ≡ fixed (symbol s))
   side_root classes byte p (plain, reads, is) (other, reads', application) =
-      let root = symbol_root classes plain (subst IsApplication (pattern_one text known once byte other plain reads' reads) application) in
+      let root = symbol_root classes plain (subst IsSymbolApplied (pattern_one text known once byte other plain reads' reads) application) in
       (root.0, ap head_of is ∙ root.1)
 
   side_arities : (classes : List (ℕ × ℕ)) (byte : ℕ) (p : Tree (PatternCell ReadHead)) → MeansSide text known classes byte p → HasArities (arity_in known.table known.variables) p
@@ -74,7 +74,7 @@ module _ (text : List ℕ) (known : Known) (once : AreOnce known) where
   keeps_back (x ∷ xs) ys (here, others) = keeps_back xs ys others
 
   equation_fits : (before number : ℕ) (sides : Sides) (w : ReadEquation) → MeansEquation text known sides w → KeepsAll text known (limits_of before sides)
-      → AllByRecursion IsFit (equations_of (record { item = WrittenEquation w; number = number } ∷ []))
+      → AllByRecursion IsFit (file_equations (record { item = WrittenEquation w; number = number } ∷ []))
   equation_fits before number sides w means (few, (application, (left, (right, others)))) = (
     record {
       left_size = side_fits means.classes sides.left 255 w.left means.left left;
@@ -88,33 +88,33 @@ module _ (text : List ℕ) (known : Known) (once : AreOnce known) where
 
   -- ---- all equations
 
-  no_equations : (number : ℕ) (names : List Token) (ns : List ReadNumbered) → AreRelated (MeansOperation text known number) names ns → equations_of ns ≡ []
+  no_equations : (number : ℕ) (names : List Token) (ns : List ReadNumbered) → AreRelated (MeansOperation text known number) names ns → file_equations ns ≡ []
   no_equations number [] [] means = refl
   no_equations number [] (n ∷ ns) means = absurd means
   no_equations number (t ∷ ts) [] means = absurd means
   no_equations number (t ∷ ts) (n ∷ ns) ((op, named, is), others) = rw is (no_equations number ts ns others)
 
   item_fits : (before number : ℕ) (i : EquationItem) (ns : List ReadNumbered) → MeansItem text known number i ns → KeepsAll text known (all_limits before (equation_of i))
-      → AllByRecursion IsFit (equations_of ns) × (length (equations_of ns) ≡ length (equation_of i))
+      → AllByRecursion IsFit (file_equations ns) × (length (file_equations ns) ≡ length (equation_of i))
   item_fits before number (Equates sides) ns (w, means, is) kept = (
-    subst (λ ms. AllByRecursion IsFit (equations_of ms)) (sym is) (equation_fits before number sides w means (keeps_front (limits_of before sides) [] kept)),
-    ap (λ ms. length (equations_of ms)) is,
+    subst (λ ms. AllByRecursion IsFit (file_equations ms)) (sym is) (equation_fits before number sides w means (keeps_front (limits_of before sides) [] kept)),
+    ap (λ ms. length (file_equations ms)) is,
   )
   item_fits before number (IncludesOperations include names) ns means kept =
       let none = no_equations number names ns means in
       (subst (AllByRecursion IsFit) (sym none) tt, ap length none)
 
   items_fit : (before number : ℕ) (is : List EquationItem) (ns : List ReadNumbered) → MeanItems text known number is ns → KeepsAll text known (all_limits before (flat_map equation_of is))
-      → AllByRecursion IsFit (equations_of ns) × (length (equations_of ns) ≡ length (flat_map equation_of is))
-  items_fit before number [] ns none kept = (subst (λ ms. AllByRecursion IsFit (equations_of ms)) (sym none) tt, ap (λ ms. length (equations_of ms)) none)
+      → AllByRecursion IsFit (file_equations ns) × (length (file_equations ns) ≡ length (flat_map equation_of is))
+  items_fit before number [] ns none kept = (subst (λ ms. AllByRecursion IsFit (file_equations ms)) (sym none) tt, ap (λ ms. length (file_equations ms)) none)
   items_fit before number (i ∷ is) ns (front, back, split, here, others) kept =
       let limits = limits_append before (equation_of i) (flat_map equation_of is) in
       let parts : KeepsAll text known (all_limits before (equation_of i) ++ all_limits (before + length (equation_of i)) (flat_map equation_of is)) = subst (KeepsAll text known) limits kept in
       let first = item_fits before number i front here (keeps_front (all_limits before (equation_of i)) _ parts) in
       let rest = items_fit (before + length (equation_of i)) (number + 1) is back others (keeps_back (all_limits before (equation_of i)) _ parts) in
-      let joined : equations_of ns ≡ equations_of front ++ equations_of back = ap equations_of split ∙ flat_map-append (λ n. equation_in n.item n.number) front back in (
-        subst (AllByRecursion IsFit) (sym joined) (all_both IsFit (equations_of front) (equations_of back) first.0 rest.0),
-        ap length joined ∙ length-append (equations_of front) (equations_of back) ∙ rw first.1 (rw rest.1 (sym (length-append (equation_of i) (flat_map equation_of is)))),
+      let joined : file_equations ns ≡ file_equations front ++ file_equations back = ap file_equations split ∙ flat_map-append (λ n. equation_in n.item n.number) front back in (
+        subst (AllByRecursion IsFit) (sym joined) (all_both IsFit (file_equations front) (file_equations back) first.0 rest.0),
+        ap length joined ∙ length-append (file_equations front) (file_equations back) ∙ rw first.1 (rw rest.1 (sym (length-append (equation_of i) (flat_map equation_of is)))),
       )
 
   few_equations : (before : ℕ) (ss : List Sides) → before ≤ 2048 → KeepsAll text known (all_limits before ss) → before + length ss ≤ 2048
@@ -170,7 +170,7 @@ root_back table (node (variable x) ps) s is = cc
 root_back table (node (restricted x class) ps) s is = cc
 
 module _ (text : List ℕ) (known : Known) (once : AreOnce known) (table : Table) where
-  numbered_fits : (e : Equation) → IsFit text known once (equation_read table e) → IsWellFormed e
+  numbered_fits : (e : Equation) → IsFit text known once (file_equation table e) → IsWellFormed e
   numbered_fits e fit = record {
     left_size = let fits = fit.left_size in omega (arith, size-map_heads (map_cell (read_head table)) e.left, fits);
     right_size = right_fits e fit;
@@ -182,28 +182,28 @@ module _ (text : List ℕ) (known : Known) (once : AreOnce known) (table : Table
       sized (rights.Tree p) = size-map_heads (map_cell (read_head table)) p
       sized (rights.Schema op) = refl
 
-      right_fits : (e : Equation) → IsFit text known once (equation_read table e) → right_size e.right ≤ 65535
+      right_fits : (e : Equation) → IsFit text known once (file_equation table e) → right_size e.right ≤ 65535
       right_fits e fit = let fits = fit.right_size in omega (arith, sized e.right, fits)
 
 -- ---- a file
 
-module _ (text : List ℕ) (d : ReadDefinitions) (says : Says text d) (table : Table) (numbered : List Equation) (is : map (equation_read table) numbered ≡ equations_of d.items) where
+module _ (text : List ℕ) (d : ReadDefinitions) (says : Says text d) (table : Table) (numbered : List Equation) (is : map (file_equation table) numbered ≡ file_equations d.items) where
   once : AreOnce says.known
   once = distinct_names text (places_of says.file) says.known says.names
 
-  fits : AllByRecursion (IsFit text says.known once) (equations_of d.items) × (length (equations_of d.items) ≡ length (flat_map equation_of says.file.items))
+  fits : AllByRecursion (IsFit text says.known once) (file_equations d.items) × (length (file_equations d.items) ≡ length (flat_map equation_of says.file.items))
   fits = items_fit text says.known once 0 1 says.file.items d.items says.items says.limits
 
-  each : (P : Equation → Type 0) → ((e : Equation) → IsFit text says.known once (equation_read table e) → P e) → All P numbered
+  each : (P : Equation → Type 0) → ((e : Equation) → IsFit text says.known once (file_equation table e) → P e) → All P numbered
   each P of k e lt =
       let all = subst (AllByRecursion (IsFit text says.known once)) (sym is) fits.0 in
-      let within : k < length (map (equation_read table) numbered) = omega (arith, length-map numbered (equation_read table), lt) in
-      of _ (subst (IsFit text says.known once) (get_or-map (equation_read table) numbered k e (equation_read table e) lt) (all_at (IsFit text says.known once) (map (equation_read table) numbered) k (equation_read table e) within all))
+      let within : k < length (map (file_equation table) numbered) = omega (arith, length-map numbered (file_equation table), lt) in
+      of _ (subst (IsFit text says.known once) (get_or-map (file_equation table) numbered k e (file_equation table e) lt) (all_at (IsFit text says.known once) (map (file_equation table) numbered) k (file_equation table e) within all))
 
   -- its equations are well formed, whatever numbers their heads have
   pub file_well_formed : AreWellFormed numbered
   file_well_formed = record {
-    few = let few = few_equations text says.known once 0 (flat_map equation_of says.file.items) (omega arith) says.limits in omega (arith, few, fits.1, ap length is, length-map numbered (equation_read table));
+    few = let few = few_equations text says.known once 0 (flat_map equation_of says.file.items) (omega arith) says.limits in omega (arith, few, fits.1, ap length is, length-map numbered (file_equation table));
     each = each IsWellFormed (numbered_fits text says.known once table);
     arity = λ h. arity_in says.known.table says.known.variables (read_head table h);
     arities = each (λ e. HasArities (λ h. arity_in says.known.table says.known.variables (read_head table h)) e.left) (λ e fit. arities_back (arity_in says.known.table says.known.variables) (read_head table) e.left fit.arities);

@@ -23,21 +23,21 @@ use Rattle.def_file.specs.declared.definitions.Item.TheVariants as item
 use Rattle.def_file.specs.declared.definitions.Numbered.{Numbered}
 use Rattle.def_file.specs.declared.definitions.Definitions.{Definitions as FileDefinitions}
 use Rattle.def_file.specs.AsRead.{numbered_read, item_read, definitions_read, IsLiveItem, AreLiveItems}
-use Rattle.ei_program.specs.Definitions.{FileEquation, equation_read, equation_in, equations_of, cells_in, AreSmall, as_equations, definitions_in}
+use Rattle.ei_program.specs.Definitions.{FileEquation, file_equation, equation_in, file_equations, cells_in, AreSmall, as_equations, definitions_in}
 use Rattle.ei_program.specs.Loading.{AreUsable}
 use Rattle.ei_program.specs.Gathering.{numbered_equation, numbered_equations, HaveSmallSides}
 
 module _ (table : Table) where
-  one_read : (i : Item) (number : ℕ) → map (equation_read table) (numbered_equation i number) ≡ equation_in (item_read table i) number
+  one_read : (i : Item) (number : ℕ) → map (file_equation table) (numbered_equation i number) ≡ equation_in (item_read table i) number
   one_read (item.Equation w) number = refl
   one_read (item.Class op byte) number = refl
 
   -- the equations of the items, as they are read
-  pub equations-read : (ns : List Numbered) → map (equation_read table) (numbered_equations ns) ≡ equations_of (map (numbered_read table) ns)
+  pub equations-read : (ns : List Numbered) → map (file_equation table) (numbered_equations ns) ≡ file_equations (map (numbered_read table) ns)
   equations-read [] = refl
   equations-read (n ∷ ns) =
-      map-append (equation_read table) (numbered_equation n.item n.number) (numbered_equations ns)
-      ∙ ap (λ es. es ++ map (equation_read table) (numbered_equations ns)) (one_read n.item n.number)
+      map-append (file_equation table) (numbered_equation n.item n.number) (numbered_equations ns)
+      ∙ ap (λ es. es ++ map (file_equation table) (numbered_equations ns)) (one_read n.item n.number)
       ∙ ap (λ es. equation_in (item_read table n.item) n.number ++ es) (equations-read ns)
 
   one_live : (i : Item) (number : ℕ) → IsLiveItem table i → AllByRecursion (IsLiveEquation table) (numbered_equation i number)
@@ -72,21 +72,21 @@ module _ (table : Table) where
   -- ---- sizes
 
   -- a sum over the equations as they are read is one over the equations
-  sum_read : (f : FileEquation → ℕ) (g : Equation → ℕ) → ((e : Equation) → f (equation_read table e) ≡ g e) → (es : List Equation) → sum_by f (map (equation_read table) es) ≡ sum_by g es
-  sum_read f g same = is_sum_by (λ es. sum_by f (map (equation_read table) es)) g refl (λ e es. sum_by-cons f (equation_read table e) (map (equation_read table) es) ∙ ap (λ n. n + sum_by f (map (equation_read table) es)) (same e))
+  sum_read : (f : FileEquation → ℕ) (g : Equation → ℕ) → ((e : Equation) → f (file_equation table e) ≡ g e) → (es : List Equation) → sum_by f (map (file_equation table) es) ≡ sum_by g es
+  sum_read f g same = is_sum_by (λ es. sum_by f (map (file_equation table) es)) g refl (λ e es. sum_by-cons f (file_equation table e) (map (file_equation table) es) ∙ ap (λ n. n + sum_by f (map (file_equation table) es)) (same e))
 
-  left_sum : (es : List Equation) → sum_by (λ (e : FileEquation). size e.rule.left) (map (equation_read table) es) ≡ sum_by (λ (e : Equation). size e.left) es
+  left_sum : (es : List Equation) → sum_by (λ (e : FileEquation). size e.rule.left) (map (file_equation table) es) ≡ sum_by (λ (e : Equation). size e.left) es
   left_sum = sum_read (λ (e : FileEquation). size e.rule.left) (λ (e : Equation). size e.left) (λ e. size-map_heads (map_cell (read_head table)) e.left)
 
   right_cells : (r : Right) → cells_in (map_right (read_head table) (right_side r)) ≡ right_size r
   right_cells (rights.Tree p) = size-map_heads (map_cell (read_head table)) p
   right_cells (rights.Schema op) = refl
 
-  right_sum : (es : List Equation) → sum_by (λ (e : FileEquation). cells_in e.rule.right) (map (equation_read table) es) ≡ sum_by (λ (e : Equation). right_size e.right) es
+  right_sum : (es : List Equation) → sum_by (λ (e : FileEquation). cells_in e.rule.right) (map (file_equation table) es) ≡ sum_by (λ (e : Equation). right_size e.right) es
   right_sum = sum_read (λ (e : FileEquation). cells_in e.rule.right) (λ (e : Equation). right_size e.right) (λ e. right_cells e.right)
 
   -- the sides have as many cells as they are read
-  pub small_read : (es : List Equation) → HaveSmallSides es ↔ AreSmall (map (equation_read table) es)
+  pub small_read : (es : List Equation) → HaveSmallSides es ↔ AreSmall (map (file_equation table) es)
   small_read es = (
     λ small. record {
       left = subst (λ n. n ≤ 32768) (sym (left_sum es)) small.left;
@@ -105,13 +105,13 @@ module _ (d : FileDefinitions) (rules : List Equation) (is : rules ≡ numbered_
   table = d.symbols
 
   -- the equations that were taken, as they are read
-  rules-read : map (equation_read table) rules ≡ equations_of (map (numbered_read table) d.items)
-  rules-read = ap (map (equation_read table)) is ∙ equations-read table d.items
+  rules-read : map (file_equation table) rules ≡ file_equations (map (numbered_read table) d.items)
+  rules-read = ap (map (file_equation table)) is ∙ equations-read table d.items
 
   pub gathered : definitions_in (record { symbols = d.symbols; variables = d.variables; rules = rules }) ≡ as_equations (definitions_read d)
   gathered = ap (λ es. record { names = names_of table; variables = d.variables; equations = es }) rules-read
 
-  pub are_small : HaveSmallSides rules ↔ AreSmall (equations_of (map (numbered_read table) d.items))
+  pub are_small : HaveSmallSides rules ↔ AreSmall (file_equations (map (numbered_read table) d.items))
   are_small = (
     λ small. subst AreSmall rules-read ((small_read table rules).0 small),
     λ small. (small_read table rules).1 (subst AreSmall (sym rules-read) small),

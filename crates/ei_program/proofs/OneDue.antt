@@ -19,7 +19,7 @@ use Rattle.eq_base.specs.Tree.{Tree}
 use Rattle.eq_base.specs.ReadHead.{ReadHead}
 use Rattle.eq_base.specs.Rules.{rule_of}
 use Rattle.regularity.specs.Listing.{Lists}
-use Rattle.ei_program.specs.Definitions.{FileEquation, Definitions, rule_in, Breaks, BreaksNone, Gives, RefusesFile}
+use Rattle.ei_program.specs.Definitions.{FileEquation, Definitions, rule_in, Breaks, BreaksNone, GivesDefinitions, RefusesFile}
 use Rattle.ei_program.specs.Restrictions.{origin_of, origin_in, broken_text, AreBroken}
 use Rattle.ei_program.specs.Run.{Given, HasFile, HasDefinitions, Accepts, Leaves}
 use Rattle.ei_program.specs.Due.{CanAnswer, HasTermFault, IsDue, AnswersDue}
@@ -60,8 +60,8 @@ module _ (given : Given) where
       (same.0, some_same bytes bytes' (sym h.found ∙ ap given.named same.1 ∙ k.found))
 
   -- the definitions that two commands have are of one file
-  both_give : (task other : Task) (d e : Definitions) (h : HasDefinitions given task d) → HasDefinitions given other e → Gives h.bytes e
-  both_give task other d e h k = subst (λ bytes. Gives bytes e) (sym (one_file task other h.bytes k.bytes h.file k.file).1) k.defines.0
+  both_give : (task other : Task) (d e : Definitions) (h : HasDefinitions given task d) → HasDefinitions given other e → GivesDefinitions h.bytes e
+  both_give task other d e h k = subst (λ bytes. GivesDefinitions bytes e) (sym (one_file task other h.bytes k.bytes h.file k.file).1) k.defines.0
 
   has_or_refused : (task other : Task) (d : Definitions) (bytes : List ℕ) (f : Fault) → HasDefinitions given task d → HasFile given other bytes → RefusesFile bytes f → ⊥
   has_or_refused task other d bytes f h k why = defines_or_refused h.bytes d f h.defines (subst (λ text. RefusesFile text f) (sym (one_file task other h.bytes bytes h.file k).1) why)

@@ -11,7 +11,7 @@ use Rattle.def_file.specs.Unbuilt.{unbuilt_of}
 use Rattle.def_file.proofs.OneFile.{one_file}
 use Rattle.def_file.proofs.OneFault.{says_no_fault, one_file_fault}
 use Rattle.def_file.proofs.OneAnswer.{says_distinct, says_one}
-use Rattle.ei_program.specs.Definitions.{Definitions, AreSmall, IsBuilt, IsUnbuilt, as_equations, Gives, Defines, RefusesFile}
+use Rattle.ei_program.specs.Definitions.{Definitions, AreSmall, IsBuilt, IsUnbuilt, as_equations, GivesDefinitions, Defines, RefusesFile}
 
 module _ (text : List ℕ) where
   -- the file that a text is has no include and no qualifier
@@ -20,10 +20,10 @@ module _ (text : List ℕ) where
 
   -- ---- one list of equations
 
-  pub one_given : (d e : Definitions) → Gives text d → Gives text e → d ≡ e
+  pub one_given : (d e : Definitions) → GivesDefinitions text d → GivesDefinitions text e → d ≡ e
   one_given d e g h = g.is ∙ ap as_equations (says_one text g.read h.read g.says h.says) ∙ sym h.is
 
-  pub given_distinct : (d : Definitions) → Gives text d → HasDistinctNames d.names
+  pub given_distinct : (d : Definitions) → GivesDefinitions text d → HasDistinctNames d.names
   given_distinct d g = subst (λ (o : Definitions). HasDistinctNames o.names) (sym g.is) (says_distinct text g.read g.says)
 
   -- ---- one fault

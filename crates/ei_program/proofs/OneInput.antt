@@ -8,7 +8,7 @@ use Rattle.symbol_table.specs.Table.{Table, HasDistinctNames}
 use Rattle.standmath.specs.Reading.{ReadsTerm}
 use Rattle.standmath.specs.Refusing.{RefusesTerm, IsTermAt}
 use Rattle.standmath.proofs.OneReading.{one_term_at}
-use Rattle.ei_program.specs.Input.{IsNextByte, NothingLeft, StandsNext, Holds, MoreFollows, IsRefused, RefusesInput}
+use Rattle.ei_program.specs.Input.{IsNextByte, NothingLeft, StandsNext, Holds, MoreFollows, HasInputFault, RefusesInput}
 use Rattle.ei_program.proofs.Inputs.{not_both}
 
 -- the next byte is one
@@ -46,7 +46,7 @@ module _ (names : Table) (distinct : HasDistinctNames names) (text : List ℕ) w
       let same = same_at 0 (Err f) (Ok (t, next)) why reads in cc
   refused_holds f (t ∷ u ∷ us) why holds something = let few = holds.few in omega (arith, few)
 
-  refused_or_held : (f : Fault) (terms : List (Tree ReadHead)) → IsRefused names text f → Holds names text terms → ⊥
+  refused_or_held : (f : Fault) (terms : List (Tree ReadHead)) → HasInputFault names text f → Holds names text terms → ⊥
   refused_or_held f terms r holds =
       ⊎_elim (λ why. refused_holds f terms why holds r.something) (λ more. more_holds f terms more holds r.something) r.why
 

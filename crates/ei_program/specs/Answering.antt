@@ -24,7 +24,8 @@ module _ (budget : ℕ) where
   abbrev pub LineLeft : Definitions → Tree ReadHead → Outcome → List ℕ → Type 0
   LineLeft d t Answered written = (line : List ℕ) × IsNormalForm budget d t line × (written ≡ ended line)
   LineLeft d t Questions written = (line : List ℕ) × IsSpent budget d t line × (written ≡ ended line)
-  LineLeft d t (Stopped WriteFailed) written = (line : List ℕ) × (back : List ℕ) × IsLine budget d t line × (written ++ back ≡ ended line)
+  LineLeft d t (Stopped WriteFailed) written = (line : List ℕ) × (back : List ℕ) × IsLine budget d t line
+      × (written ++ back ≡ ended line)
   LineLeft d t outcome written = ⊥
 
 -- the fault count of what is written rose where a write failed, and else it is as before; nothing is read, and the words are not looked at

@@ -59,8 +59,8 @@ equation_in (WrittenEquation e) number = record {
 equation_in (Class op byte) number = []
 
 -- the equations of a file's items
-abbrev pub equations_of : List ReadNumbered → List FileEquation
-equations_of items = flat_map (λ n. equation_in n.item n.number) items
+abbrev pub file_equations : List ReadNumbered → List FileEquation
+file_equations items = flat_map (λ n. equation_in n.item n.number) items
 
 -- how many cells a right side has; an operation has none
 abbrev pub cells_in : {H : Type 0} → RightSide H → ℕ
@@ -89,10 +89,10 @@ pub record IsUnbuilt (text : List ℕ) (byte : ℕ) : Type 0 where
 -- what a file says, taken as equations
 abbrev pub as_equations : ReadDefinitions → Definitions
 as_equations read =
-    record { names = read.names; variables = read.variables; equations = equations_of read.items }
+    record { names = read.names; variables = read.variables; equations = file_equations read.items }
 
 -- the file has no fault, no include and no qualifier, and gives these definitions
-pub record Gives (text : List ℕ) (d : Definitions) : Type 0 where
+pub record GivesDefinitions (text : List ℕ) (d : Definitions) : Type 0 where
   pub read : ReadDefinitions
   pub says : Says text read
   pub built : IsBuilt text
@@ -100,7 +100,7 @@ pub record Gives (text : List ℕ) (d : Definitions) : Type 0 where
 
 -- the file gives these definitions, and they are not too large
 abbrev pub Defines : List ℕ → Definitions → Type 0
-Defines text d = Gives text d × AreSmall d.equations
+Defines text d = GivesDefinitions text d × AreSmall d.equations
 
 -- the file has no fault, but an include or a qualifier
 pub record IsNotYet (text : List ℕ) (fault : Fault) : Type 0 where
@@ -112,7 +112,7 @@ pub record IsNotYet (text : List ℕ) (fault : Fault) : Type 0 where
 -- the file has neither, but is too large
 pub record IsLarge (text : List ℕ) (fault : Fault) : Type 0 where
   pub definitions : Definitions
-  pub gives : Gives text definitions
+  pub gives : GivesDefinitions text definitions
   pub large : ¬ AreSmall definitions.equations
   pub is : fault ≡ record { kind = NotYet; byte = 0 }
 
@@ -129,15 +129,15 @@ pub record IsAccepted (d : Definitions) : Type 0 where
 -- ---- what a program holds
 
 -- the equation, as the table reads it
-abbrev pub equation_read : Table → Equation → FileEquation
-equation_read table e = record { rule = read_rule table e; origin = e.origin }
+abbrev pub file_equation : Table → Equation → FileEquation
+file_equation table e = record { rule = read_rule table e; origin = e.origin }
 
 -- what the reader of a file holds
 abbrev pub definitions_in : Equations → Definitions
 definitions_in e = record {
   names = names_of e.symbols;
   variables = e.variables;
-  equations = map (equation_read e.symbols) e.rules;
+  equations = map (file_equation e.symbols) e.rules;
 }
 
 -- what a program holds that loaded a file
@@ -145,5 +145,5 @@ abbrev pub definitions_of : Loaded → Definitions
 definitions_of l = record {
   names = names_of l.symbols;
   variables = l.variables;
-  equations = map (equation_read l.symbols) l.regular;
+  equations = map (file_equation l.symbols) l.regular;
 }

@@ -17,7 +17,7 @@ use Rattle.ei_program.specs.Definitions.{Definitions, RefusesFile}
 use Rattle.ei_program.specs.Restrictions.{origin_of, broken_text, AreBroken}
 use Rattle.ei_program.specs.Input.{Holds, RefusesInput}
 use Rattle.ei_program.specs.Run.{Given, HasFile, HasDefinitions, Accepts}
-use Rattle.ei_program.specs.Telling.{IsTold}
+use Rattle.ei_program.specs.Telling.{IsOutcomeTold}
 
 -- the file is accepted, and the input is short enough and holds terms, one at most
 pub record CanAnswer (given : Given) : Type 0 where
@@ -38,8 +38,10 @@ pub record HasTermFault (given : Given) (fault : Fault) : Type 0 where
 -- the run has to come to this outcome
 abbrev pub IsDue : Given → Outcome → Type 0
 IsDue given BadWords = ¬ IsCommandLine given.words
-IsDue given (FileRefused fault) = (task : Task) × (bytes : List ℕ) × HasFile given task bytes × RefusesFile bytes fault
-IsDue given (Broken breaks rules) = (task : Task) × (d : Definitions) × HasDefinitions given task d × AreBroken d.equations breaks rules
+IsDue given (FileRefused fault) = (task : Task) × (bytes : List ℕ) × HasFile given task bytes
+    × RefusesFile bytes fault
+IsDue given (Broken breaks rules) = (task : Task) × (d : Definitions) × HasDefinitions given task d
+    × AreBroken d.equations breaks rules
 IsDue given (TermRefused fault) = HasTermFault given fault
 IsDue given Answered = CanAnswer given ⊎ ((d : Definitions) × Accepts given Check d)
 IsDue given outcome = ⊥
@@ -55,4 +57,5 @@ AnswersDue due outcome = outcome ≡ due
 
 -- the due outcome is told, or memory ran out
 abbrev pub ComesTo : Outcome → Option (List ℕ) → Option (List ℕ) → Status → Type 0
-ComesTo due old new status = (status ≡ NoMemory) ⊎ ((outcome : Outcome) × AnswersDue due outcome × IsTold outcome old new status)
+ComesTo due old new status = (status ≡ NoMemory)
+    ⊎ ((outcome : Outcome) × AnswersDue due outcome × IsOutcomeTold outcome old new status)

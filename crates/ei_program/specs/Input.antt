@@ -26,7 +26,8 @@ StandsNext text place byte = IsNextByte text place byte × (byte < length text)
 -- the terms, each with its dot, stand one after another between two places of the text
 abbrev pub Terms : Table → List ℕ → ℕ → List (Tree ReadHead) → ℕ → Type 0
 Terms table text place [] last = place ≡ last
-Terms table text place (t ∷ ts) last = (next : ℕ) × ReadsTerm table text place t next × Terms table text next ts last
+Terms table text place (t ∷ ts) last = (next : ℕ) × ReadsTerm table text place t next
+    × Terms table text next ts last
 
 -- the text holds these terms, one at most, and nothing else but blanks and comments
 pub record Holds (table : Table) (text : List ℕ) (terms : List (Tree ReadHead)) : Type 0 where
@@ -44,7 +45,7 @@ pub record MoreFollows (table : Table) (text : List ℕ) (fault : Fault) : Type 
   pub kind : fault.kind ≡ NotYet
 
 -- the text holds something, and that begins with no term and its dot, or goes on behind them
-pub record IsRefused (table : Table) (text : List ℕ) (fault : Fault) : Type 0 where
+pub record HasInputFault (table : Table) (text : List ℕ) (fault : Fault) : Type 0 where
   pub something : ¬ NothingLeft text 0
   pub why : RefusesTerm table text 0 fault ⊎ MoreFollows table text fault
 
@@ -52,4 +53,4 @@ pub record IsRefused (table : Table) (text : List ℕ) (fault : Fault) : Type 0 
 abbrev pub RefusesInput : Table → List ℕ → Fault → Type 0
 RefusesInput table input fault =
     ((2 ^ 24 < length input) × (fault ≡ record { kind = TermLong; byte = 0 }))
-    ⊎ ((length input ≤ 2 ^ 24) × IsRefused table input fault)
+    ⊎ ((length input ≤ 2 ^ 24) × HasInputFault table input fault)

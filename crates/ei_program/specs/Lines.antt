@@ -12,7 +12,8 @@ pub record IsNormalForm (budget : ℕ) (d : Definitions) (t : Tree ReadHead) (li
   pub form : Tree ReadHead
   pub derivable : IsDerivable (system d) t form
   pub normal : IsNormal (system d) form
-  pub only : (other : Tree ReadHead) → IsDerivable (system d) t other → IsNormal (system d) other → other ≡ form
+  pub only : (other : Tree ReadHead) → IsDerivable (system d) t other → IsNormal (system d) other
+      → other ≡ form
   pub steps : ℕ
   pub length : HasLength (system d) t steps form
   pub within : steps ≤ budget
@@ -23,7 +24,8 @@ pub record IsSpent (budget : ℕ) (d : Definitions) (t : Tree ReadHead) (line : 
   pub last : Tree ReadHead
   pub run : PlainRun (system d) t budget last
   pub unfinished : IsNormal (system d) last → ⊥
-  pub longer : (form : Tree ReadHead) → IsDerivable (system d) t form → IsNormal (system d) form → (steps : ℕ) × HasLength (system d) t steps form × (budget < steps)
+  pub longer : (form : Tree ReadHead) → IsDerivable (system d) t form → IsNormal (system d) form → (steps : ℕ)
+      × HasLength (system d) t steps form × (budget < steps)
   pub written : line ≡ codes "? spent " ++ decimal budget
 
 -- the line answers the term
@@ -48,8 +50,8 @@ abbrev pub ended : List ℕ → List ℕ
 ended line = line ++ 10 ∷ []
 
 -- the bytes of lines
-abbrev pub bytes_of : List (List ℕ) → List ℕ
-bytes_of lines = flat_map ended lines
+abbrev pub text_of_lines : List (List ℕ) → List ℕ
+text_of_lines lines = flat_map ended lines
 
 -- the line of a file that is accepted: how many equations it gives
 abbrev pub accepted_line : Definitions → List ℕ

@@ -18,14 +18,15 @@ use Rattle.ei_program.specs.declared.outcome.Outcome.{Outcome}
 use Rattle.ei_program.specs.declared.outcome.Outcome.TheVariants.{BadWords, FileRefused, Broken, Stopped}
 use Rattle.ei_program.specs.declared.definitions.Equations.{Equations}
 use Rattle.ei_program.specs.declared.loading.Loaded.{Loaded}
-use Rattle.ei_program.specs.Definitions.{Definitions, equations_of, AreSmall, as_equations, BreaksNone, IsAccepted, Defines, RefusesFile, definitions_in, definitions_of}
+use Rattle.ei_program.specs.Definitions.{Definitions, file_equations, AreSmall, as_equations, BreaksNone, IsAccepted, Defines, RefusesFile, definitions_in, definitions_of}
 use Rattle.ei_program.specs.Restrictions.{AreBroken}
 
 -- these are the bytes of the file; or it is not there, or not taken whole
 abbrev pub IsFileTaken : Option (List ℕ) → Result (Vec ℕ Global) Outcome → Type 0
 IsFileTaken found (Ok bytes) = found ≡ Some bytes.items
 IsFileTaken found (Err (FileRefused fault)) =
-    (file : List ℕ) × (found ≡ Some file) × (2 ^ 24 < length file) × (fault ≡ record { kind = FileLong; byte = 2 ^ 24 })
+    (file : List ℕ) × (found ≡ Some file) × (2 ^ 24 < length file)
+    × (fault ≡ record { kind = FileLong; byte = 2 ^ 24 })
 IsFileTaken found (Err (Stopped NoMemory)) = Unit {0}
 IsFileTaken found (Err (Stopped ReadFailed)) = Unit {0}
 IsFileTaken found (Err outcome) = ⊥
@@ -34,9 +35,9 @@ IsFileTaken found (Err outcome) = ⊥
 abbrev pub AreGathered : FileDefinitions → Result Equations FileError → Type 0
 AreGathered read (Ok equations) =
     (definitions_in equations ≡ as_equations (definitions_read read))
-    × AreSmall (equations_of (definitions_read read).items)
+    × AreSmall (file_equations (definitions_read read).items)
 AreGathered read (Err (Refused fault)) =
-    (¬ AreSmall (equations_of (definitions_read read).items)) × (fault ≡ record { kind = NotYet; byte = 0 })
+    (¬ AreSmall (file_equations (definitions_read read).items)) × (fault ≡ record { kind = NotYet; byte = 0 })
 AreGathered read (Err error) = Unit {0}
 
 -- each number in the equations is live, and the truth values are declared where the value of an operation is one
@@ -63,7 +64,8 @@ abbrev pub IsLoaded : Option (List ℕ) → Result Loaded Outcome → Type 0
 IsLoaded found (Ok loaded) = (file : List ℕ) × (found ≡ Some file) × Defines file (definitions_of loaded)
     × BreaksNone (definitions_of loaded).equations
 IsLoaded found (Err (FileRefused fault)) = (file : List ℕ) × (found ≡ Some file) × RefusesFile file fault
-IsLoaded found (Err (Broken breaks rules)) = (file : List ℕ) × (d : Definitions) × (found ≡ Some file) × Defines file d × AreBroken d.equations breaks rules
+IsLoaded found (Err (Broken breaks rules)) = (file : List ℕ) × (d : Definitions) × (found ≡ Some file)
+    × Defines file d × AreBroken d.equations breaks rules
 IsLoaded found (Err (Stopped NoMemory)) = Unit {0}
 IsLoaded found (Err (Stopped ReadFailed)) = Unit {0}
 IsLoaded found (Err outcome) = ⊥

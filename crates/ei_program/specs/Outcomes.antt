@@ -24,7 +24,9 @@ status_of (Stopped WriteFailed) = Status.WriteFailed
 
 -- the line of a fault: what is refused, the fault's word, and its byte
 abbrev pub refused_text : List ℕ → Fault → List ℕ
-refused_text what fault = codes "ei: " ++ what ++ codes " refused: " ++ fault_word fault.kind ++ codes " at byte " ++ decimal fault.byte ++ codes "\n"
+refused_text what fault =
+    codes "ei: " ++ what ++ codes " refused: " ++ fault_word fault.kind ++ codes " at byte "
+    ++ decimal fault.byte ++ codes "\n"
 
 -- what is told of an outcome; of answers, and of an output that failed, nothing is told
 abbrev pub message_of : Outcome → List ℕ

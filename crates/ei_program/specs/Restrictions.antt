@@ -47,11 +47,13 @@ broken_with restriction other = if nat_lt restriction 3 then [] else codes " wit
 
 -- the line of a break of a restriction, by its parts
 abbrev pub joined_line : ℕ → (name at with_other : List ℕ) → List ℕ
-joined_line restriction name at with_other = codes "RE" ++ decimal restriction ++ codes " equation " ++ name ++ at ++ with_other ++ codes "\n"
+joined_line restriction name at with_other =
+    codes "RE" ++ decimal restriction ++ codes " equation " ++ name ++ at ++ with_other ++ codes "\n"
 
 -- the line of a break of a restriction by the equation of this name, at this place, and with that other equation
 abbrev pub broken_line : ℕ → (name place other : List ℕ) → List ℕ
-broken_line restriction name place other = joined_line restriction name (broken_at restriction place) (broken_with restriction other)
+broken_line restriction name place other =
+    joined_line restriction name (broken_at restriction place) (broken_with restriction other)
 
 -- how many breaks are told
 abbrev pub most_told : ℕ
@@ -73,7 +75,8 @@ module _ {H E : Type 0} (rule : E → Rule H) (origin : E → Origin) where
   abbrev pub line_of : Break → E → E → List ℕ
   line_of b one other =
       broken_line b.restriction (origin_name (origin one))
-      (position_name (nth_position (broken_side b.restriction (rule one)) b.place)) (origin_name (origin other))
+      (position_name (nth_position (broken_side b.restriction (rule one)) b.place))
+      (origin_name (origin other))
 
   -- the same where the two equations are in the list
   abbrev pub line_by : Break → Option E → Option E → List ℕ
@@ -100,7 +103,8 @@ origin_in e = e.origin
 
 -- these are the breaks of the equations, of which there is one at least; the rules that came back tell of them as the
 -- equations do
-pub record AreBroken (equations : List FileEquation) (breaks : List Break) (rules : List Equation) : Type 0 where
+pub record AreBroken (equations : List FileEquation) (breaks : List Break)
+    (rules : List Equation) : Type 0 where
   pub listed : Lists (Breaks equations) breaks
   pub some : 0 < length breaks
   pub told : broken_text rule_of origin_of rules breaks ≡ broken_text rule_in origin_in equations breaks

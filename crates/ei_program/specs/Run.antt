@@ -14,8 +14,8 @@ use Rattle.ei_program.specs.declared.outcome.Outcome.TheVariants.{Answered, Ques
 use Rattle.ei_program.specs.Words.{Asks, IsCommandLine}
 use Rattle.ei_program.specs.Definitions.{Definitions, Defines, RefusesFile, BreaksNone}
 use Rattle.ei_program.specs.Restrictions.{AreBroken}
-use Rattle.ei_program.specs.Input.{Terms, Holds, IsRefused, RefusesInput}
-use Rattle.ei_program.specs.Lines.{IsNormalForm, IsSpent, IsLine, AreLines, SomeLine, ended, bytes_of, accepted_line}
+use Rattle.ei_program.specs.Input.{Terms, Holds, HasInputFault, RefusesInput}
+use Rattle.ei_program.specs.Lines.{IsNormalForm, IsSpent, IsLine, AreLines, SomeLine, ended, text_of_lines, accepted_line}
 
 -- what a run is given: its words, the bytes under each name, and its input
 pub record Given : Type 0 where
@@ -43,7 +43,8 @@ pub record Accepts (given : Given) (task : Task) (d : Definitions) : Type 0 wher
 -- ---- the answering of a text's terms
 
 -- all terms of the text are answered
-pub record Answers (Fits : Tree ReadHead → List ℕ → Type 0) (d : Definitions) (text : List ℕ) (lines : List (List ℕ)) : Type 0 where
+pub record AreAnswers (Fits : Tree ReadHead → List ℕ → Type 0) (d : Definitions) (text : List ℕ)
+    (lines : List (List ℕ)) : Type 0 where
   pub terms : List (Tree ReadHead)
   pub reads : Holds d.names text terms
   pub fit : AreLines Fits terms lines
@@ -57,31 +58,37 @@ pub record AnswersFirst (budget : ℕ) (d : Definitions) (text : List ℕ) (line
 
 -- all terms are answered, and some by `? spent`
 pub record AnswersInPart (budget : ℕ) (d : Definitions) (text : List ℕ) (lines : List (List ℕ)) : Type 0 where
-  pub answers : Answers (IsLine budget d) d text lines
+  pub answers : AreAnswers (IsLine budget d) d text lines
   pub some : SomeLine (IsSpent budget d) answers.terms lines
 
 -- what was written when a text was answered, by the outcome
 abbrev pub TextLeft : ℕ → Definitions → List ℕ → Outcome → List ℕ → Type 0
-TextLeft budget d text Answered written = (lines : List (List ℕ)) × Answers (IsNormalForm budget d) d text lines × (written ≡ bytes_of lines)
-TextLeft budget d text Questions written = (lines : List (List ℕ)) × AnswersInPart budget d text lines × (written ≡ bytes_of lines)
-TextLeft budget d text (TermRefused fault) written = IsRefused d.names text fault × (written ≡ [])
+TextLeft budget d text Answered written = (lines : List (List ℕ))
+    × AreAnswers (IsNormalForm budget d) d text lines × (written ≡ text_of_lines lines)
+TextLeft budget d text Questions written = (lines : List (List ℕ)) × AnswersInPart budget d text lines
+    × (written ≡ text_of_lines lines)
+TextLeft budget d text (TermRefused fault) written = HasInputFault d.names text fault × (written ≡ [])
 -- whole lines of the first terms
-TextLeft budget d text (Stopped NoMemory) written = (lines : List (List ℕ)) × AnswersFirst budget d text lines × (written ≡ bytes_of lines)
+TextLeft budget d text (Stopped NoMemory) written = (lines : List (List ℕ)) × AnswersFirst budget d text lines
+    × (written ≡ text_of_lines lines)
 -- a front of the lines of the first terms
-TextLeft budget d text (Stopped WriteFailed) written = (lines : List (List ℕ)) × (back : List ℕ) × AnswersFirst budget d text lines × (written ++ back ≡ bytes_of lines)
+TextLeft budget d text (Stopped WriteFailed) written = (lines : List (List ℕ)) × (back : List ℕ)
+    × AnswersFirst budget d text lines × (written ++ back ≡ text_of_lines lines)
 TextLeft budget d text outcome written = ⊥
 
 -- ---- the answering of the input
 
 -- the bytes were taken from the input, and answered with this outcome
-pub record TakenLeft (budget : ℕ) (d : Definitions) (input : List ℕ) (outcome : Outcome) (written : List ℕ) : Type 0 where
+pub record TakenLeft (budget : ℕ) (d : Definitions) (input : List ℕ) (outcome : Outcome)
+    (written : List ℕ) : Type 0 where
   pub taken : List ℕ
   pub rest : List ℕ
   pub parts : input ≡ taken ++ rest
   pub answered : TextLeft budget d taken outcome written
 
 -- a read failed behind the bytes that were taken, and their terms were answered
-pub record CutLeft (budget : ℕ) (d : Definitions) (input : List ℕ) (left : Option (List ℕ)) (written : List ℕ) : Type 0 where
+pub record CutLeft (budget : ℕ) (d : Definitions) (input : List ℕ) (left : Option (List ℕ))
+    (written : List ℕ) : Type 0 where
   pub outcome : Outcome
   pub answered : TakenLeft budget d input outcome written
   pub leaves : left ≡ Some answered.rest
@@ -90,8 +97,10 @@ pub record CutLeft (budget : ℕ) (d : Definitions) (input : List ℕ) (left : O
 -- what is left of the input, and what was written, by the outcome
 abbrev pub InputLeft : ℕ → Definitions → List ℕ → Option (List ℕ) → Outcome → List ℕ → Type 0
 -- read to its end
-InputLeft budget d input left Answered written = (left ≡ Some []) × (length input ≤ 2 ^ 24) × TextLeft budget d input Answered written
-InputLeft budget d input left Questions written = (left ≡ Some []) × (length input ≤ 2 ^ 24) × TextLeft budget d input Questions written
+InputLeft budget d input left Answered written = (left ≡ Some []) × (length input ≤ 2 ^ 24)
+    × TextLeft budget d input Answered written
+InputLeft budget d input left Questions written = (left ≡ Some []) × (length input ≤ 2 ^ 24)
+    × TextLeft budget d input Questions written
 -- longer than may be taken, or refused
 InputLeft budget d input left (TermRefused fault) written = RefusesInput d.names input fault × (written ≡ [])
 InputLeft budget d input left (Stopped ReadFailed) written = CutLeft budget d input left written
@@ -117,13 +126,15 @@ IsChecked d (Stopped NoMemory) written = written ≡ []
 IsChecked d outcome written = ⊥
 
 -- what a run leaves that accepts its file: the input is answered, or the file is told of and the input is not touched
-pub record AnswersTask (given : Given) (left : Option (List ℕ)) (outcome : Outcome) (written : List ℕ) : Type 0 where
+pub record AnswersTask (given : Given) (left : Option (List ℕ)) (outcome : Outcome)
+    (written : List ℕ) : Type 0 where
   pub definitions : Definitions
   pub budget : ℕ
   pub accepts : Accepts given (Answer budget) definitions
   pub answered : InputLeft budget definitions given.input left outcome written
 
-pub record ChecksTask (given : Given) (left : Option (List ℕ)) (outcome : Outcome) (written : List ℕ) : Type 0 where
+pub record ChecksTask (given : Given) (left : Option (List ℕ)) (outcome : Outcome)
+    (written : List ℕ) : Type 0 where
   pub definitions : Definitions
   pub accepts : Accepts given Check definitions
   pub untouched : left ≡ Some given.input
@@ -132,11 +143,15 @@ pub record ChecksTask (given : Given) (left : Option (List ℕ)) (outcome : Outc
 -- what is left of the input, and what was written to the output, by the outcome
 abbrev pub Leaves : Given → Option (List ℕ) → Outcome → List ℕ → Type 0
 Leaves given left BadWords written = (¬ IsCommandLine given.words) × Untouched given left written
-Leaves given left (FileRefused fault) written = ((task : Task) × (bytes : List ℕ) × HasFile given task bytes × RefusesFile bytes fault) × Untouched given left written
+Leaves given left (FileRefused fault) written =
+    ((task : Task) × (bytes : List ℕ) × HasFile given task bytes × RefusesFile bytes fault)
+    × Untouched given left written
 Leaves given left (Broken breaks rules) written =
-    ((task : Task) × (d : Definitions) × HasDefinitions given task d × AreBroken d.equations breaks rules) × Untouched given left written
+    ((task : Task) × (d : Definitions) × HasDefinitions given task d × AreBroken d.equations breaks rules)
+    × Untouched given left written
 Leaves given left outcome written =
-    AnswersTask given left outcome written ⊎ (ChecksTask given left outcome written ⊎ (StopsEarly outcome × Untouched given left written))
+    AnswersTask given left outcome written
+    ⊎ (ChecksTask given left outcome written ⊎ (StopsEarly outcome × Untouched given left written))
 
 -- the output grew by what was written
 abbrev pub LeavesOn : (List ℕ → Type 0) → Option (List ℕ) → Option (List ℕ) → Type 0

@@ -14,7 +14,7 @@ EndsAs limit bytes left Long = length bytes ≡ limit + 1
 EndsAs limit bytes left Failed = length bytes ≤ limit
 
 -- a front of the text was taken
-pub record IsTaken (limit : ℕ) (before left : Option (List ℕ)) (taken : Taken) : Type 0 where
+pub record IsTakenFrom (limit : ℕ) (before left : Option (List ℕ)) (taken : Taken) : Type 0 where
   pub consumed : Consumes before left taken.bytes.items
   pub ends : EndsAs limit taken.bytes.items left taken.ending
 

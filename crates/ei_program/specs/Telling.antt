@@ -14,16 +14,18 @@ use Rattle.ei_program.specs.Run.{Given, Leaves, LeavesOn}
 abbrev pub IsWritten : List ℕ → Status → Option (List ℕ) → Option (List ℕ) → Status → Type 0
 IsWritten message status old new result =
     ((result ≡ status) × Appends old new message)
-    ⊎ ((result ≡ WriteFailed) × (front : List ℕ) × (back : List ℕ) × (front ++ back ≡ message) × Appends old new front)
+    ⊎ ((result ≡ WriteFailed) × (front : List ℕ) × (back : List ℕ) × (front ++ back ≡ message)
+    × Appends old new front)
 
 -- the outcome is told, or that there is no memory to do so
-abbrev pub IsTold : Outcome → Option (List ℕ) → Option (List ℕ) → Status → Type 0
-IsTold outcome old new status =
+abbrev pub IsOutcomeTold : Outcome → Option (List ℕ) → Option (List ℕ) → Status → Type 0
+IsOutcomeTold outcome old new status =
     IsWritten (message_of outcome) (status_of outcome) old new status
     ⊎ IsWritten (message_of (Stopped NoMemory)) (status_of (Stopped NoMemory)) old new status
 
 -- some outcome, with what it leaves of the input and on the output, and what is told of it
-pub record IsRun (given : Given) (left out_old out_new err_old err_new : Option (List ℕ)) (status : Status) : Type 0 where
+pub record IsRun (given : Given) (left out_old out_new err_old err_new : Option (List ℕ))
+    (status : Status) : Type 0 where
   pub outcome : Outcome
   pub leaves : LeavesOn (Leaves given left outcome) out_old out_new
-  pub told : IsTold outcome err_old err_new status
+  pub told : IsOutcomeTold outcome err_old err_new status

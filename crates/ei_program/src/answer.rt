@@ -56,7 +56,8 @@ fn line_of(alloc: Global, loaded: &mut Loaded, budget: u64, term: Flat) -> Resul
 
 /// Writes a line whole.
 fn write_line<O: Sink>(line: &Line, output: &mut O) -> Outcome
-    ensures left { (budget : ℕ) (d : Definitions) (t : Tree ReadHead) → IsLineOf budget d t line.now → LeavesOn (LineLeft budget d t result) (O.taken output.old) (O.taken output.new) }
+    ensures left { (budget : ℕ) (d : Definitions) (t : Tree ReadHead) → IsLineOf budget d t line.now
+        → LeavesOn (LineLeft budget d t result) (O.taken output.old) (O.taken output.new) }
     ensures count { IsWriteOutcome (O.faults output.old) (O.faults output.new) result }
 {
     if write_whole(output, &line.text).is_err() {

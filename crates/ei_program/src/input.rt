@@ -2,7 +2,7 @@
 ghost use Rattle.std.specs.Prelude.{◌≡◌, ◌≤◌, ◌+◌, length, IfOk, IfErr, IfSome, IfNone};
 ghost use Rattle.symbol_table.specs.Table.{Keeps, names_of};
 ghost use Rattle.written_terms.specs.Answering.{IfRefused};
-ghost use Rattle.ei_program.specs.Input.{NothingLeft, StandsNext, IsRefused};
+ghost use Rattle.ei_program.specs.Input.{NothingLeft, StandsNext, HasInputFault};
 ghost use Rattle.ei_program.specs.ReadInput.{IsInput};
 
 use eq_base::Flat;
@@ -33,7 +33,7 @@ pub fn read_input(
     text: &[u8],
 ) -> Result<Option<Flat>, ReadError>
     ensures holds { IfOk result (IsInput (names_of symbols.old) symbols.new text.now) }
-    ensures refused { IfErr result (IfRefused (IsRefused (names_of symbols.old) text.now)) }
+    ensures refused { IfErr result (IfRefused (HasInputFault (names_of symbols.old) text.now)) }
     ensures keeps { Keeps symbols.old symbols.new }
 {
     let Some(_) = next_byte(text, 0) else {

@@ -3,7 +3,7 @@ ghost use Rattle.std.specs.Prelude.{◌≡◌, ℕ, List, Option, IfOk, IfErr, S
 ghost use Rattle.ei_program.specs.Definitions.{Defines, definitions_in};
 ghost use Rattle.ei_program.specs.Outcomes.{CanBeTold};
 ghost use Rattle.ei_program.specs.Loading.{AreUsable, IsReady, IsFileTaken, IsAdmitted, IsLoaded, IsReadOutcome};
-ghost use Rattle.ei_program.specs.Taking.{IsTaken, IsReadCount};
+ghost use Rattle.ei_program.specs.Taking.{IsTakenFrom, IsReadCount};
 
 use crate::definitions::{Equations, read_equations};
 use crate::outcome::Outcome;
@@ -34,7 +34,7 @@ pub struct Loaded {
 /// Takes the bytes of the chosen file.
 fn take_chosen<F: Files>(alloc: Global, files: &mut F) -> Result<Taken, NoMemory>
     ensures kept { F.named files.new ≡ F.named files.old }
-    ensures taken { IfOk result (IsTaken TEXT_BYTES (F.rest files.old) (F.rest files.new)) }
+    ensures taken { IfOk result (IsTakenFrom TEXT_BYTES (F.rest files.old) (F.rest files.new)) }
     ensures count { IsReadCount (F.faults files.old) (F.faults files.new) result }
 {
     let mut source = FileSource::new(files);
@@ -44,7 +44,8 @@ fn take_chosen<F: Files>(alloc: Global, files: &mut F) -> Result<Taken, NoMemory
 /// The bytes of a file, or the outcome of a run that cannot have them.
 fn take_file<F: Files>(alloc: Global, files: &mut F, name: &str) -> Result<Vec<u8>, Outcome>
     ensures told { IfErr result CanBeTold }
-    ensures taken { (named : List ℕ → Option (List ℕ)) → F.named files.old ≡ Some named → IsFileTaken (named name.now) result }
+    ensures taken { (named : List ℕ → Option (List ℕ)) → F.named files.old ≡ Some named
+        → IsFileTaken (named name.now) result }
     ensures count { IsReadOutcome (F.faults files.old) (F.faults files.new) result }
 {
     if files.choose(name).is_err() {
@@ -84,7 +85,8 @@ fn admit(alloc: Global, equations: Equations) -> Result<Loaded, Outcome>
 
 /// What the named file defines, or the outcome of a run that does not accept it.
 pub fn load<F: Files>(alloc: Global, files: &mut F, name: &str) -> Result<Loaded, Outcome>
-    ensures loaded { (named : List ℕ → Option (List ℕ)) → F.named files.old ≡ Some named → IsLoaded (named name.now) result }
+    ensures loaded { (named : List ℕ → Option (List ℕ)) → F.named files.old ≡ Some named
+        → IsLoaded (named name.now) result }
     ensures ready { IfOk result IsReady }
     ensures told { IfErr result CanBeTold }
     ensures count { IsReadOutcome (F.faults files.old) (F.faults files.new) result }

@@ -32,7 +32,8 @@ fn argument_toward(pattern: &Pattern, at: usize, node: usize) -> (usize, usize)
     ensures after { at < result.0 }
     ensures before { result.0 ≤ node }
     ensures within { node < result.0 + size (nth_subtree pattern.now result.0) }
-    ensures way { map (λ i. i + 1) (nth_position (nth_subtree pattern.now at) (node - at)) ≡ result.1 ∷ map (λ i. i + 1) (nth_position (nth_subtree pattern.now result.0) (node - result.0)) }
+    ensures way { map (λ i. i + 1) (nth_position (nth_subtree pattern.now at) (node - at)) ≡ result.1
+        ∷ map (λ i. i + 1) (nth_position (nth_subtree pattern.now result.0) (node - result.0)) }
 {
     let mut argument = at + 1;
     let mut number = 1;

@@ -39,15 +39,19 @@ fn answer_input<I: Source, O: Sink>(
 ) -> Outcome
     requires { IsReady loaded.old }
     ensures left { (bytes : List ℕ) → I.left input.old ≡ Some bytes
-        → LeavesOn (InputLeft budget (definitions_of loaded.old) bytes (I.left input.new) result) (O.taken output.old) (O.taken output.new) }
+        → LeavesOn (InputLeft budget (definitions_of loaded.old) bytes (I.left input.new) result)
+        (O.taken output.old) (O.taken output.new) }
     ensures input_later { I.faults input.old ≤ I.faults input.new }
     ensures output_later { O.faults output.old ≤ O.faults output.new }
     ensures read { result ≡ Outcome.Stopped Stop.ReadFailed → Rose (I.faults input.old) (I.faults input.new) }
-    ensures write { result ≡ Outcome.Stopped Stop.WriteFailed → Rose (O.faults output.old) (O.faults output.new) }
+    ensures write { result ≡ Outcome.Stopped Stop.WriteFailed
+        → Rose (O.faults output.old) (O.faults output.new) }
     ensures words { result ≢ Outcome.BadWords }
     ensures told { CanBeTold result }
-    ensures read_steady { result ≢ Outcome.Stopped Stop.ReadFailed → result ≢ Outcome.Stopped Stop.WriteFailed → result ≢ Outcome.Stopped Stop.NoMemory → I.faults input.new ≡ I.faults input.old }
-    ensures write_steady { result ≢ Outcome.Stopped Stop.WriteFailed → O.faults output.new ≡ O.faults output.old }
+    ensures read_steady { result ≢ Outcome.Stopped Stop.ReadFailed → result ≢ Outcome.Stopped Stop.WriteFailed
+        → result ≢ Outcome.Stopped Stop.NoMemory → I.faults input.new ≡ I.faults input.old }
+    ensures write_steady { result ≢ Outcome.Stopped Stop.WriteFailed
+        → O.faults output.new ≡ O.faults output.old }
 {
     let taken = match take_up_to(alloc, input, TEXT_BYTES) {
         Ok(taken) => taken,
@@ -65,7 +69,8 @@ fn answer_input<I: Source, O: Sink>(
 
 /// Tells on the output that a file is accepted, and how many equations it gives.
 fn tell_accepted<O: Sink>(alloc: Global, loaded: &Loaded, output: &mut O) -> Outcome
-    ensures left { LeavesOn (λ written. IsChecked (definitions_of loaded.now) result written) (O.taken output.old) (O.taken output.new) }
+    ensures left { LeavesOn (λ written. IsChecked (definitions_of loaded.now) result written)
+        (O.taken output.old) (O.taken output.new) }
     ensures count { IsWriteOutcome (O.faults output.old) (O.faults output.new) result }
     ensures told { CanBeTold result }
 {
@@ -87,18 +92,28 @@ pub fn run<F: Files, I: Source, O: Sink>(
     input: &mut I,
     output: &mut O,
 ) -> Outcome
-    ensures left { (named : List ℕ → Option (List ℕ)) (bytes : List ℕ) → F.named files.old ≡ Some named → I.left input.old ≡ Some bytes
-        → LeavesOn (Leaves (record { words = map string_bytes words.now; named = named; input = bytes }) (I.left input.new) result) (O.taken output.old) (O.taken output.new) }
+    ensures left { (named : List ℕ → Option (List ℕ)) (bytes : List ℕ) → F.named files.old ≡ Some named
+        → I.left input.old ≡ Some bytes
+        → LeavesOn
+        (Leaves (record { words = map string_bytes words.now; named = named; input = bytes })
+        (I.left input.new) result)
+        (O.taken output.old) (O.taken output.new) }
     ensures words { (result ≡ Outcome.BadWords) ↔ (¬ IsCommandLine (map string_bytes words.now)) }
     ensures told { CanBeTold result }
     ensures files_later { F.faults files.old ≤ F.faults files.new }
     ensures input_later { I.faults input.old ≤ I.faults input.new }
     ensures output_later { O.faults output.old ≤ O.faults output.new }
-    ensures read { result ≡ Outcome.Stopped Stop.ReadFailed → Rose (F.faults files.old) (F.faults files.new) ⊎ Rose (I.faults input.old) (I.faults input.new) }
-    ensures write { result ≡ Outcome.Stopped Stop.WriteFailed → Rose (O.faults output.old) (O.faults output.new) }
-    ensures files_steady { result ≢ Outcome.Stopped Stop.ReadFailed → F.faults files.new ≡ F.faults files.old }
-    ensures input_steady { result ≢ Outcome.Stopped Stop.ReadFailed → result ≢ Outcome.Stopped Stop.WriteFailed → result ≢ Outcome.Stopped Stop.NoMemory → I.faults input.new ≡ I.faults input.old }
-    ensures output_steady { result ≢ Outcome.Stopped Stop.WriteFailed → O.faults output.new ≡ O.faults output.old }
+    ensures read { result ≡ Outcome.Stopped Stop.ReadFailed → Rose (F.faults files.old) (F.faults files.new)
+        ⊎ Rose (I.faults input.old) (I.faults input.new) }
+    ensures write { result ≡ Outcome.Stopped Stop.WriteFailed
+        → Rose (O.faults output.old) (O.faults output.new) }
+    ensures files_steady { result ≢ Outcome.Stopped Stop.ReadFailed
+        → F.faults files.new ≡ F.faults files.old }
+    ensures input_steady { result ≢ Outcome.Stopped Stop.ReadFailed
+        → result ≢ Outcome.Stopped Stop.WriteFailed → result ≢ Outcome.Stopped Stop.NoMemory
+        → I.faults input.new ≡ I.faults input.old }
+    ensures output_steady { result ≢ Outcome.Stopped Stop.WriteFailed
+        → O.faults output.new ≡ O.faults output.old }
 {
     let Some(command) = read_words(words) else {
         return Outcome::BadWords;

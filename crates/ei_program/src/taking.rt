@@ -2,7 +2,7 @@
 ghost use Rattle.std.specs.Prelude.{◌≡◌, ◌≤◌, ◌<◌, ◌^◌, length, vec_len, IfOk};
 ghost use Rattle.std.specs.Io.KnownBytes.{ReadConsumes};
 ghost use Rattle.eq_ports.specs.Causes.{HasCause};
-ghost use Rattle.ei_program.specs.Taking.{IsTaken, IsReadCount};
+ghost use Rattle.ei_program.specs.Taking.{IsTakenFrom, IsReadCount};
 
 use eq_base::NoMemory;
 use eq_ports::{Failed, Source};
@@ -53,7 +53,7 @@ fn read_some<S: Source>(source: &mut S, piece: &mut [u8], room: usize) -> Result
 /// after an end or a failure. Linear in the bytes that are taken.
 pub fn take_up_to<S: Source>(alloc: Global, source: &mut S, limit: usize) -> Result<Taken, NoMemory>
     requires { limit ≤ 2 ^ 48 }
-    ensures taken { IfOk result (IsTaken limit (S.left source.old) (S.left source.new)) }
+    ensures taken { IfOk result (IsTakenFrom limit (S.left source.old) (S.left source.new)) }
     ensures count { IsReadCount (S.faults source.old) (S.faults source.new) result }
     ensures through { S.through source.new ≡ S.through source.old }
 {

@@ -76,7 +76,8 @@ fn task_of(options: &[String]) -> Option<Task>
 
 /// The command line that the words are, if they are one: options, and the name of the definitions file.
 pub fn read_words(words: &[String]) -> Option<Command<'_>>
-    ensures asked { IfSome result (λ command. Asks (map string_bytes words.now) command.task command.file.now) }
+    ensures asked { IfSome result (λ command. Asks
+        (map string_bytes words.now) command.task command.file.now) }
     ensures none { IfNone result (¬ IsCommandLine (map string_bytes words.now)) }
 {
     let (file, options) = words.split_last()?;

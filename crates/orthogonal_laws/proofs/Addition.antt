@@ -5,7 +5,7 @@ use Rattle.std.specs.List.{IsDistinct}
 use Rattle.std.proofs.lemmas.Bool.{eqb-true, eq-eqb}
 use Rattle.eq_base.specs.Tree.{Tree, Forest, node, empty, grow, head_of, Position, IsBefore}
 use Rattle.eq_base.specs.Pattern.{PatternCell, fixed, IsTested, variables, IsLinear}
-use Rattle.orthogonal_laws.specs.Orthogonal.{IsHead, TestSame, ClashFirst, IsBound, SameRight, IsWellFormed, IsOrthogonal}
+use Rattle.orthogonal_laws.specs.Orthogonal.{IsHead, TestSame, ClashFirst, IsBound, SameRight, IsWellFormedSystem, IsOrthogonal}
 use Rattle.eq_base.specs.Testing.{IsTestedAt, IsPattern}
 use Rattle.eq_base.specs.Rewriting.{pattern, operation, Rule}
 use Rattle.eq_base.specs.declared.rules.Op.{Op}
@@ -23,7 +23,7 @@ each P b s rule i = go (contains-in i)
 no_operation : (p : Tree (PatternCell ℕ)) (op : Op) → pattern p ≡ operation op → ⊥
 no_operation p op e = absurd (cc)
 
-pub addition_well_formed : IsWellFormed addition
+pub addition_well_formed : IsWellFormedSystem addition
 addition_well_formed = record {
   same = nat_eq;
   decides = λ g h. (λ e. eqb-true g h e, λ e. eq-eqb g h e);

@@ -3,7 +3,7 @@ use Rattle.std.proofs.Common.{◌≡◌, ℕ, zero, suc, List, [], ◌∷◌, �
 use Rattle.eq_base.specs.Tree.{Tree, Forest, node, empty, grow, count, Position, subtree_in}
 use Rattle.eq_base.specs.Pattern.{PatternCell}
 use Rattle.eq_base.specs.Rewriting.{System, IsRedex, IsNormal}
-use Rattle.orthogonal_laws.specs.Orthogonal.{IsWellFormed, IsOrthogonal}
+use Rattle.orthogonal_laws.specs.Orthogonal.{IsWellFormedSystem, IsOrthogonal}
 use Rattle.orthogonal_laws.specs.Strategy.{IsDemanded, IsDemandedRedex, HasNoDemandedRedex, HasNoNext}
 use Rattle.orthogonal_laws.proofs.LeftSides.{fill, Redex}
 use Rattle.orthogonal_laws.proofs.ForestStrategy.{DemandedRedex, demand_root}
@@ -54,7 +54,7 @@ module _ {H : Type 0} where
   reads_or_not (grow t rest) (Done r) (i ∷ p) = inr (λ r. elim r [ ])
   reads_or_not (grow t rest) Stop (i ∷ p) = inr (λ r. elim r [ ])
 
-module _ {H : Type 0} (system : System H) (w : IsWellFormed system) (o : IsOrthogonal system) where
+module _ {H : Type 0} (system : System H) (w : IsWellFormedSystem system) (o : IsOrthogonal system) where
   pub demanded_or_not : (t : Tree H) (q : Position) → IsDemanded system t q ⊎ (IsDemanded system t q → ⊥)
   demanded_or_not (node h args) q =
       let reads = regular-reads (orthogonal-regular system w o) in

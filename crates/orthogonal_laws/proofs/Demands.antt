@@ -6,7 +6,7 @@ use Rattle.eq_base.specs.Tree.{Tree, Forest, node, empty, grow, head_of, arity_o
 use Rattle.eq_base.specs.Pattern.{PatternCell, fixed, variable, restricted, Classes, IsTested, IsConstantOf}
 use Rattle.eq_base.specs.Testing.{MeetsRoot, IsTestedAt, MeetsAt, IsPattern, ArePatterns}
 use Rattle.eq_base.specs.Rewriting.{System}
-use Rattle.orthogonal_laws.specs.Orthogonal.{IsWellFormed}
+use Rattle.orthogonal_laws.specs.Orthogonal.{IsWellFormedSystem}
 use Rattle.orthogonal_laws.specs.Strategy.{IsDemanded}
 use Rattle.orthogonal_laws.proofs.Members.{contains-in, in-contains, in-map, map-in}
 use Rattle.orthogonal_laws.proofs.LeftSides.{Patterns, Meets}
@@ -174,7 +174,7 @@ demands-not_root a = elim a [ ]
 not_empty : {A : Type 0} (P : List A → Type 0) (q : List A) → P q → (P [] → ⊥) → q ≢ []
 not_empty P q x none e = none (subst P e x)
 
-module _ {H : Type 0} (system : System H) (w : IsWellFormed system) where
+module _ {H : Type 0} (system : System H) (w : IsWellFormedSystem system) where
   -- what the translated rules demand, the system demands
   pub below-demanded : (h : H) (args : Forest H) (q : Position) → DemandedBelow (compiled system w) h args q → IsDemanded system (node h args) q
   below-demanded h args q a =

@@ -12,7 +12,7 @@ use Rattle.eq_base.proofs.Instances.{fits_from_instance}
 use Rattle.orthogonal_laws.specs.Matching.{IsLastFailure}
 use Rattle.orthogonal_laws.specs.Next.{IsArgumentToward}
 use Rattle.orthogonal_laws.specs.Operations.{Values}
-use Rattle.orthogonal_laws.specs.Orthogonal.{IsWellFormed, IsOrthogonal}
+use Rattle.orthogonal_laws.specs.Orthogonal.{IsWellFormedSystem, IsOrthogonal}
 use Rattle.orthogonal_laws.specs.Strategy.{HasNoDemandedRedex}
 use Rattle.orthogonal_laws.proofs.Members.{get-in, map-in, in-get}
 use Rattle.orthogonal_laws.proofs.Reaching.{reaches-bound}
@@ -41,7 +41,7 @@ argument_in (node a args) i s e = e
 pub later_of : (m n k : ℕ) → k ≡ max m n → ((k ≡ m) × (n ≤ m)) ⊎ ((k ≡ n) × (m ≤ n))
 later_of m n k e = ⊎_elim (λ below. inr (omega (arith, e), omega arith)) (λ past. inl (omega (arith, e), past)) (cases_lt m n)
 
-module _ (values : Values) (es : List Equation) (w : IsWellFormed (system_of values es)) (o : IsOrthogonal (system_of values es)) (whole t : Tree Head) (place at last failing later : ℕ) (f : IsFollowed (system_of values es) w o whole (nth_subtree t at) (last - at) place) (failed : IsLastFailure es (nth_subtree t at) (failing - at)) (low : at ≤ last) (low' : at ≤ failing) (is : later ≡ max last failing) where
+module _ (values : Values) (es : List Equation) (w : IsWellFormedSystem (system_of values es)) (o : IsOrthogonal (system_of values es)) (whole t : Tree Head) (place at last failing later : ℕ) (f : IsFollowed (system_of values es) w o whole (nth_subtree t at) (last - at) place) (failed : IsLastFailure es (nth_subtree t at) (failing - at)) (low : at ≤ last) (low' : at ≤ failing) (is : later ≡ max last failing) where
   -- the last left side fails within the subterm
   pub fails_within : later < at + size (nth_subtree t at)
   fails_within =

@@ -4,7 +4,7 @@ use Rattle.std.specs.Prelude.{Bool}
 use Rattle.eq_base.specs.Tree.{Tree, Forest, node, empty, grow, count, Position}
 use Rattle.eq_base.specs.Pattern.{PatternCell}
 use Rattle.eq_base.specs.Rewriting.{System}
-use Rattle.orthogonal_laws.specs.Orthogonal.{IsWellFormed, IsOrthogonal}
+use Rattle.orthogonal_laws.specs.Orthogonal.{IsWellFormedSystem, IsOrthogonal}
 use Rattle.orthogonal_laws.specs.Development.{Development, marks}
 use Rattle.orthogonal_laws.proofs.LeftSides.{Patterns, Last, Open, Test, Compiled, Meets, open_parts, opens, Redex, left, Alike, alike_last, alike_open, alike_test, Clash, clash_here, clash_below, clash_after, clash_skip, Regular}
 use Rattle.orthogonal_laws.proofs.ForestDevelopments.{Develops, nil, keep, contract, marks_at, bump, past, part_position}
@@ -130,7 +130,7 @@ module _ {H : Type 0} (rules : List (Compiled H)) (regular : Regular rules) wher
             | inr x ↦ ap (marks_at d) (sym x.1) ∙ (parts_behind y d x.0 p ∙ (sym (parts_behind y' d' x.0 p) ∙ ap (marks_at d') (sym (alike_past a (x.0 ∷ p)) ∙ x.1)))
           ]
 
-module _ {H : Type 0} (system : System H) (w : IsWellFormed system) (o : IsOrthogonal system) where
+module _ {H : Type 0} (system : System H) (w : IsWellFormedSystem system) (o : IsOrthogonal system) where
   pub development_determined : (t u u' : Tree H) (n n' : ℕ) (d : Development system t u n) (d' : Development system t u' n') → ((q : Position) → marks d q ≡ marks d' q) → (u ≡ u') × (n ≡ n')
   development_determined t u u' n n' d d' e =
       let x = develop-to system w o d nil in

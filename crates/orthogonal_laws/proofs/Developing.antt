@@ -4,7 +4,7 @@ use Rattle.std.specs.Prelude.{IsTrue, Contains}
 use Rattle.std.proofs.lemmas.List.{append-nil}
 use Rattle.eq_base.specs.Tree.{Tree, Forest, node, empty, grow, head_of, arity_of, count, Position}
 use Rattle.eq_base.specs.Pattern.{PatternCell, fixed, variable, restricted, all_restrictions, Classes, Substitution, apply, Respects, IsInstanceOf}
-use Rattle.orthogonal_laws.specs.Orthogonal.{IsHead, IsWellFormed, IsOrthogonal}
+use Rattle.orthogonal_laws.specs.Orthogonal.{IsHead, IsWellFormedSystem, IsOrthogonal}
 use Rattle.eq_base.specs.Rewriting.{Rule, System, Gives, IsRedex}
 use Rattle.eq_base.proofs.Instances.{FitAll, all_bindings, Agrees, agrees_front, agrees_back}
 use Rattle.orthogonal_laws.specs.Development.{Development, unmarked, marked, Developments, none, more, right_weight, variable_at, variable_in, marks, marks_in}
@@ -93,7 +93,7 @@ module _ {H : Type 0} (same : H → H → Bool) (in_class : Classes H) (rules : 
       inside r z zero (j ∷ q) = z.inside j q
       inside r z (suc i) q = z.outside (part_position (tests same in_class ps) (i ∷ q)) ∙ r.inside i q
 
-module _ {H : Type 0} (system : System H) (w : IsWellFormed system) (o : IsOrthogonal system) where
+module _ {H : Type 0} (system : System H) (w : IsWellFormedSystem system) (o : IsOrthogonal system) where
   same_mark : (t u : Tree H) (rule : Rule H) (σ τ : Substitution H) (v : ℕ → ℕ) (listed : Contains system.rules rule) (applied : apply σ rule.left ≡ t) (respects : Respects system.in_class σ rule.left) (ds : (x : ℕ) → Development system (σ x) (τ x) (v x)) (gives : Gives system τ rule.right t u) (i : ℕ) (q : Position) →
       mark_of (λ x q. marks (ds x) q) (variable_at rule.left (i ∷ q)) ≡ marks (marked rule σ τ v listed applied respects ds gives) (i ∷ q)
   same_mark t u rule σ τ v listed applied respects ds gives i q = go (variable_at rule.left (i ∷ q))

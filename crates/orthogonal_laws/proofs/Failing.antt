@@ -10,7 +10,7 @@ use Rattle.eq_base.specs.declared.head.Head as rust
 use Rattle.eq_base.specs.declared.head.Cell.TheVariants.{Head}
 use Rattle.eq_base.proofs.Scans.{forest_from, forest_from-start, forest_from-node, forest_from-args}
 use Rattle.eq_base.proofs.Instances.{Fits, FitAll, FitFront, FitAll-count}
-use Rattle.orthogonal_laws.specs.Matching.{Stands, AreMet, none_met, head_met, variable_met, constant_met, IsFirstMismatch, here, below, after, FailsAt}
+use Rattle.orthogonal_laws.specs.Matching.{Stands, AreMet, none_met, head_met, variable_met, constant_met, IsFirstFailure, here, below, after, FailsAt}
 
 module _ {H : Type 0} (in_class : Classes H) where
   met_more : {p : Tree (PatternCell H)} {t : Tree H} {ps : Forest (PatternCell H)} {ts : Forest H} → AreMet in_class (grow p empty) (grow t empty) → AreMet in_class ps ts → AreMet in_class (grow p ps) (grow t ts)
@@ -20,10 +20,10 @@ module _ {H : Type 0} (in_class : Classes H) where
 
   -- in trees, and in more trees after them
   data Split (us ps : Forest (PatternCell H)) (vs ts : Forest H) (n : ℕ) : Type 0 where
-    in_first : IsFirstMismatch in_class us vs n → Split us ps vs ts n
-    in_later : (k : ℕ) → AreMet in_class us vs → IsFirstMismatch in_class ps ts k → n ≡ total_size vs + k → Split us ps vs ts n
+    in_first : IsFirstFailure in_class us vs n → Split us ps vs ts n
+    in_later : (k : ℕ) → AreMet in_class us vs → IsFirstFailure in_class ps ts k → n ≡ total_size vs + k → Split us ps vs ts n
 
-  split : (us ps : Forest (PatternCell H)) (vs ts : Forest H) (n : ℕ) → count us ≡ count vs → IsFirstMismatch in_class (join us ps) (join vs ts) n → Split us ps vs ts n
+  split : (us ps : Forest (PatternCell H)) (vs ts : Forest H) (n : ℕ) → count us ≡ count vs → IsFirstFailure in_class (join us ps) (join vs ts) n → Split us ps vs ts n
   split empty ps empty ts n c m = in_later n none_met m (omega arith)
   split empty ps (grow v vs) ts n c m = absurd (omega arith)
   split (grow u us) ps empty ts n c m = absurd (omega arith)
@@ -35,7 +35,7 @@ module _ {H : Type 0} (in_class : Classes H) where
         | in_later k' met' m' e' ↦ in_later k' (met_more met met') m' (omega (arith, e, e'))
       ]
 
-  mismatch_below : (h : H) (us ps : Forest (PatternCell H)) (vs ts : Forest H) (n : ℕ) → count us ≡ count vs → IsFirstMismatch in_class (join us ps) (join vs ts) n → IsFirstMismatch in_class (grow (node (fixed h) us) ps) (grow (node h vs) ts) (suc n)
+  mismatch_below : (h : H) (us ps : Forest (PatternCell H)) (vs ts : Forest H) (n : ℕ) → count us ≡ count vs → IsFirstFailure in_class (join us ps) (join vs ts) n → IsFirstFailure in_class (grow (node (fixed h) us) ps) (grow (node h vs) ts) (suc n)
   mismatch_below h us ps vs ts n c m =
       elim (split us ps vs ts n c m) [
         | in_first m' ↦ below c m' refl
@@ -53,12 +53,12 @@ module _ {H : Type 0} (in_class : Classes H) where
   all-front (grow p ps) (grow t ts) f = (f.0, all-front ps ts f.1)
 
   -- what fits does not fail
-  pub mismatch-fits : {ps : Forest (PatternCell H)} {ts : Forest H} {n : ℕ} → IsFirstMismatch in_class ps ts n → FitFront in_class ps ts → ⊥
+  pub mismatch-fits : {ps : Forest (PatternCell H)} {ts : Forest H} {n : ℕ} → IsFirstFailure in_class ps ts n → FitFront in_class ps ts → ⊥
   mismatch-fits (here {p = p} {t = t} fails e) f = fails (fits-meets p t f.0)
   mismatch-fits (below {us = us} {vs = vs} c m e) f = mismatch-fits m (all-front us vs f.0.1)
   mismatch-fits (after met m e) f = mismatch-fits m f.1
 
-  front_only : (p : Tree (PatternCell H)) (t : Tree H) (ts : Forest H) (n : ℕ) → IsFirstMismatch in_class (grow p empty) (grow t ts) n → IsFirstMismatch in_class (grow p empty) (grow t empty) n
+  front_only : (p : Tree (PatternCell H)) (t : Tree H) (ts : Forest H) (n : ℕ) → IsFirstFailure in_class (grow p empty) (grow t ts) n → IsFirstFailure in_class (grow p empty) (grow t empty) n
   front_only p t ts n (here fails e) = here fails e
   front_only (node (fixed h) us) (node k vs) ts n (below c m e) = below c m e
   front_only p t ts n (after met m e) = elim m [ ]
@@ -70,13 +70,13 @@ meets-stands (node (restricted x class) us) s m = m
 
 -- at a head that stands, the arguments come next
 mismatch_head : (p : Tree (PatternCell rust.Head)) (ps : Forest (PatternCell rust.Head)) (s : Tree rust.Head) (ts : Forest rust.Head) (n : ℕ) (g : rust.Head) (a : ℕ) → root_cell p ≡ Head g a → Stands (root_cell p) s →
-    IsFirstMismatch in_symbol_class (join (args_of p) ps) (join (args_of s) ts) n → IsFirstMismatch in_symbol_class (grow p ps) (grow s ts) (suc n)
-mismatch_head (node (fixed h) us) ps (node k vs) ts n g a e st m = subst (λ z. IsFirstMismatch in_symbol_class (grow (node (fixed h) us) ps) (grow (node z vs) ts) (suc n)) st.0 (mismatch_below in_symbol_class h us ps vs ts n st.1 m)
+    IsFirstFailure in_symbol_class (join (args_of p) ps) (join (args_of s) ts) n → IsFirstFailure in_symbol_class (grow p ps) (grow s ts) (suc n)
+mismatch_head (node (fixed h) us) ps (node k vs) ts n g a e st m = subst (λ z. IsFirstFailure in_symbol_class (grow (node (fixed h) us) ps) (grow (node z vs) ts) (suc n)) st.0 (mismatch_below in_symbol_class h us ps vs ts n st.1 m)
 mismatch_head (node (variable x) us) ps s ts n g a e st m = cc
 mismatch_head (node (restricted x class) us) ps s ts n g a e st m = cc
 
 mismatch_other : (p : Tree (PatternCell rust.Head)) (ps : Forest (PatternCell rust.Head)) (s : Tree rust.Head) (ts : Forest rust.Head) (n : ℕ) → ((g : rust.Head) (a : ℕ) → root_cell p ≡ Head g a → ⊥) → Stands (root_cell p) s →
-    IsFirstMismatch in_symbol_class ps ts n → IsFirstMismatch in_symbol_class (grow p ps) (grow s ts) (size s + n)
+    IsFirstFailure in_symbol_class ps ts n → IsFirstFailure in_symbol_class (grow p ps) (grow s ts) (size s + n)
 mismatch_other (node (fixed h) us) ps s ts n none st m = absurd (none h (count us) refl)
 mismatch_other (node (variable x) us) ps s ts n none st m = after (variable_met none_met) m refl
 mismatch_other (node (restricted x class) us) ps s ts n none st m = after (constant_met st none_met) m refl
@@ -84,21 +84,21 @@ mismatch_other (node (restricted x class) us) ps s ts n none st m = after (const
 module _ (left : Tree (PatternCell rust.Head)) (term : Tree rust.Head) (at : ℕ) where
   -- what first fails from here on, first fails in the whole
   abbrev pub FailsFrom : ℕ → ℕ → Type 0
-  FailsFrom i place = (k : ℕ) → IsFirstMismatch in_symbol_class (forest_from left i) (forest_from term place) k → FailsAt left (nth_subtree term at) (place - at + k)
+  FailsFrom i place = (k : ℕ) → IsFirstFailure in_symbol_class (forest_from left i) (forest_from term place) k → FailsAt left (nth_subtree term at) (place - at + k)
 
   pub fails_start : at < size term → FailsFrom 0 at
   fails_start lt k m =
-      let m' = subst (λ z. IsFirstMismatch in_symbol_class z (forest_from term at) k) (forest_from-start left) m in
-      let m'' = subst (λ z. IsFirstMismatch in_symbol_class (grow left empty) z k) (forest_from-node term at lt) m' in
+      let m' = subst (λ z. IsFirstFailure in_symbol_class z (forest_from term at) k) (forest_from-start left) m in
+      let m'' = subst (λ z. IsFirstFailure in_symbol_class (grow left empty) z k) (forest_from-node term at lt) m' in
       let e : k ≡ at - at + k = omega arith in
       subst (λ z. FailsAt left (nth_subtree term at) z) e (front_only in_symbol_class left (nth_subtree term at) _ k m'')
 
   module _ (i place : ℕ) (from : FailsFrom i place) (past : at ≤ place) (lt : i < size left) (there : place < size term) where
     -- from the cell and the node on
-    closed : (k : ℕ) → IsFirstMismatch in_symbol_class (grow (nth_subtree left i) (forest_from left (i + size (nth_subtree left i)))) (grow (nth_subtree term place) (forest_from term (place + size (nth_subtree term place)))) k → FailsAt left (nth_subtree term at) (place - at + k)
+    closed : (k : ℕ) → IsFirstFailure in_symbol_class (grow (nth_subtree left i) (forest_from left (i + size (nth_subtree left i)))) (grow (nth_subtree term place) (forest_from term (place + size (nth_subtree term place)))) k → FailsAt left (nth_subtree term at) (place - at + k)
     closed k m =
-        let m' = subst (λ z. IsFirstMismatch in_symbol_class z (grow (nth_subtree term place) (forest_from term (place + size (nth_subtree term place)))) k) (sym (forest_from-node left i lt)) m in
-        from k (subst (λ z. IsFirstMismatch in_symbol_class (forest_from left i) z k) (sym (forest_from-node term place there)) m')
+        let m' = subst (λ z. IsFirstFailure in_symbol_class z (grow (nth_subtree term place) (forest_from term (place + size (nth_subtree term place)))) k) (sym (forest_from-node left i lt)) m in
+        from k (subst (λ z. IsFirstFailure in_symbol_class (forest_from left i) z k) (sym (forest_from-node term place there)) m')
 
     pub fails_here : (Stands (root_cell (nth_subtree left i)) (nth_subtree term place) → ⊥) → FailsAt left (nth_subtree term at) (place - at)
     fails_here none =
@@ -107,8 +107,8 @@ module _ (left : Tree (PatternCell rust.Head)) (term : Tree rust.Head) (at : ℕ
 
     pub fails_head : (g : rust.Head) (a : ℕ) → root_cell (nth_subtree left i) ≡ Head g a → Stands (root_cell (nth_subtree left i)) (nth_subtree term place) → FailsFrom (i + 1) (place + 1)
     fails_head g a e st k m =
-        let m' = subst (λ z. IsFirstMismatch in_symbol_class z (forest_from term (place + 1)) k) (forest_from-args left i lt) m in
-        let m'' = subst (λ z. IsFirstMismatch in_symbol_class (join (args_of (nth_subtree left i)) (forest_from left (i + size (nth_subtree left i)))) z k) (forest_from-args term place there) m' in
+        let m' = subst (λ z. IsFirstFailure in_symbol_class z (forest_from term (place + 1)) k) (forest_from-args left i lt) m in
+        let m'' = subst (λ z. IsFirstFailure in_symbol_class (join (args_of (nth_subtree left i)) (forest_from left (i + size (nth_subtree left i)))) z k) (forest_from-args term place there) m' in
         let n : place - at + suc k ≡ place + 1 - at + k = omega arith in
         subst (λ z. FailsAt left (nth_subtree term at) z) n (closed (suc k) (mismatch_head _ _ _ _ k g a e st m''))
 

@@ -13,7 +13,7 @@ use Rattle.eq_base.specs.declared.rules.Equation.{Equation}
 use Rattle.eq_base.proofs.Instances.{fits_from_instance}
 use Rattle.orthogonal_laws.specs.Matching.{FailsAt, IsLastFailure}
 use Rattle.orthogonal_laws.specs.Operations.{Values}
-use Rattle.orthogonal_laws.specs.Orthogonal.{IsWellFormed, IsOrthogonal}
+use Rattle.orthogonal_laws.specs.Orthogonal.{IsWellFormedSystem, IsOrthogonal}
 use Rattle.orthogonal_laws.proofs.Members.{In, contains-in, in-contains, in-get, get-in, in-map, map-in}
 use Rattle.orthogonal_laws.proofs.LeftSides.{Compiled}
 use Rattle.orthogonal_laws.proofs.Matchers.{rule_tree}
@@ -60,7 +60,7 @@ fails_more es number e there t n k m so_far fails is =
 pub fails_all : (es : List Equation) (bound : ℕ) (t : Tree Head) (n : ℕ) → FailsSoFar es bound t n → length es ≤ bound → IsLastFailure es t n
 fails_all es bound t n so_far past = record { each = λ number e there. let z = slice_get_within es number e there in so_far.each number e (omega (arith, z)) there; some = so_far.some }
 
-module _ (values : Values) (es : List Equation) (w : IsWellFormed (system_of values es)) (o : IsOrthogonal (system_of values es)) where
+module _ (values : Values) (es : List Equation) (w : IsWellFormedSystem (system_of values es)) (o : IsOrthogonal (system_of values es)) where
   abbrev system : System Head
   system = system_of values es
 

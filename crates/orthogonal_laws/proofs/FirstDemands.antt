@@ -8,7 +8,7 @@ use Rattle.eq_base.proofs.Replacing.{number-nth_position}
 use Rattle.orthogonal_laws.specs.declared.demand.Fit.{Fit}
 use Rattle.orthogonal_laws.specs.Looking.{IsFirstFit}
 use Rattle.orthogonal_laws.specs.Next.{IsDemandedFit, IsNextRedex}
-use Rattle.orthogonal_laws.specs.Orthogonal.{IsWellFormed, IsOrthogonal}
+use Rattle.orthogonal_laws.specs.Orthogonal.{IsWellFormedSystem, IsOrthogonal}
 use Rattle.orthogonal_laws.specs.Strategy.{IsDemandedRedex, HasNoDemandedRedex, none_demanded, IsNext}
 use Rattle.orthogonal_laws.proofs.LeftSides.{Compiled}
 use Rattle.orthogonal_laws.proofs.ForestSteps.{At, at_here, at_below, at_after}
@@ -42,7 +42,7 @@ module _ {H : Type 0} (rules : List (Compiled H)) where
 pub no_redex_there : {H : Type 0} {system : System H} (t : Tree H) → HasNoDemandedRedex system t → IsRedex system t → ⊥
 no_redex_there t (none_demanded none each) r = none r
 
-module _ {H : Type 0} (system : System H) (w : IsWellFormed system) (o : IsOrthogonal system) where
+module _ {H : Type 0} (system : System H) (w : IsWellFormedSystem system) (o : IsOrthogonal system) where
   first_of_tree : (t : Tree H) (q p : Position) (s : Tree H) → subtree_at t q ≡ Some s → ((r : Position) (u : Tree H) → subtree_at t r ≡ Some u → number t r < number t q → HasNoDemandedRedex system u) → IsDemandedRedex system s p → IsNext system t (q ++ p)
   first_of_tree t q p (node g us) there each d =
       next-one system w o (first_demand (compiled system w) (grow t empty) 0 q p g us (stands-at (grow t empty) 0 q g us there) earlier (demand-from system w o d))
@@ -60,7 +60,7 @@ module _ {H : Type 0} (system : System H) (w : IsWellFormed system) (o : IsOrtho
   pub normal_node : (t : Tree H) (k : ℕ) → HasNoDemandedRedex system (nth_subtree t k) → IsRedex system (nth_subtree t k) → ⊥
   normal_node t k none r = no_redex_there (nth_subtree t k) none r
 
-module _ {H : Type 0} (system : System H) (w : IsWellFormed system) (o : IsOrthogonal system) (t : Tree H) where
+module _ {H : Type 0} (system : System H) (w : IsWellFormedSystem system) (o : IsOrthogonal system) (t : Tree H) where
   -- the demanded redex of the first node that has one is the next redex
   pub next_of_fit : (at : ℕ) (fit : Fit) → at < size t → ((k : ℕ) → k < at → HasNoDemandedRedex system (nth_subtree t k)) → IsDemandedFit system t at fit → IsNextRedex system t fit.at fit.equation
   next_of_fit at fit lt each d =

@@ -3,7 +3,7 @@ use Rattle.std.proofs.Common.{◌≡◌, ℕ, suc, ◌+◌, ◌-◌, ◌<◌, �
 use Rattle.eq_base.specs.Tree.{Tree, Forest, node, head_of, args_of, arity_of, count, size, total_size, Position, subtree_at, subtree_in, number}
 use Rattle.eq_base.specs.Storing.{first_trees}
 use Rattle.eq_base.specs.Rewriting.{System, IsRedex}
-use Rattle.orthogonal_laws.specs.Orthogonal.{IsWellFormed, IsOrthogonal}
+use Rattle.orthogonal_laws.specs.Orthogonal.{IsWellFormedSystem, IsOrthogonal}
 use Rattle.orthogonal_laws.specs.Strategy.{IsDemandedRedex, at_root, HasNoDemandedRedex}
 use Rattle.orthogonal_laws.proofs.Matchers.{Matcher, Stop, join, tree}
 use Rattle.orthogonal_laws.proofs.Sequential.{Apart, beside_stop_left, Guarded, guarded_stop}
@@ -20,7 +20,7 @@ use Rattle.orthogonal_laws.proofs.Reaching.{Reaches, reaches_none, reaches_withi
 use Rattle.orthogonal_laws.proofs.JoinedWalks.{apart-beside, quiet_join, by_second, by_first, leads_join, descend}
 use Rattle.orthogonal_laws.proofs.Numbers.{subtree-append, number-append, number_first}
 
-module _ {H : Type 0} (system : System H) (w : IsWellFormed system) (o : IsOrthogonal system) where
+module _ {H : Type 0} (system : System H) (w : IsWellFormedSystem system) (o : IsOrthogonal system) where
   abbrev pub LeadsTo : Matcher H → Forest H → Position → Forest H → Type 0
   LeadsTo m ts p us = Leads (compiled system w) (tree (compiled system w)) m ts p us
 

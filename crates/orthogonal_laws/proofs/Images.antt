@@ -12,7 +12,7 @@ use Rattle.eq_base.specs.declared.rules.Op.{Op}
 use Rattle.eq_base.proofs.Lists.{all_map}
 use Rattle.eq_base.specs.Mapping.{map_cell, map_pattern, map_right, map_rule}
 use Rattle.eq_base.proofs.Mapped.{subtree_at-map, map-back, head-map, variables-map, restrictions-map, apply-map, unmap-pattern, tested-map, tested_at-map, tested_at-unmap, applied-map, respects-map, instance-map, meets_at-map, clash_at-unmap, rule-back}
-use Rattle.orthogonal_laws.specs.Orthogonal.{IsHead, ClashFirst, SameRight, IsBound, AgreeOnRestricted, IsWellFormed, IsOrthogonal}
+use Rattle.orthogonal_laws.specs.Orthogonal.{IsHead, ClashFirst, SameRight, IsBound, AgreeOnRestricted, IsWellFormedSystem, IsOrthogonal}
 use Rattle.orthogonal_laws.specs.Strategy.{IsDemanded}
 use Rattle.orthogonal_laws.proofs.Members.{contains-in, in-contains, in-map}
 
@@ -123,7 +123,7 @@ module _ {A B : Type 0} (f : A → B) (g : B → A) (back : (a : A) → g (f a) 
   value-back : (op : Op) (t : Tree A) → S.value_of op t ≡ option_map (map_heads g) (T.value_of op (map_heads f t))
   value-back op t = ap (S.value_of op) (sym (map-back f g back t)) ∙ returns.values op (map_heads f t)
 
-  well_formed_values : IsWellFormed T → (rule : Rule A) → Contains S.rules rule → (op : Op) → rule.right ≡ operation op → (σ τ : Substitution A) → Respects S.in_class σ rule.left → AgreeOnRestricted rule.left σ τ → S.value_of op (apply σ rule.left) ≡ S.value_of op (apply τ rule.left)
+  well_formed_values : IsWellFormedSystem T → (rule : Rule A) → Contains S.rules rule → (op : Op) → rule.right ≡ operation op → (σ τ : Substitution A) → Respects S.in_class σ rule.left → AgreeOnRestricted rule.left σ τ → S.value_of op (apply σ rule.left) ≡ S.value_of op (apply τ rule.left)
   well_formed_values w rule c op e σ τ r agree =
       let same =
       w.values (map_rule f rule) (contained-image f S T image rule c) op (ap (map_right f) e) (λ x. map_heads f (σ x)) (λ x. map_heads f (τ x))
@@ -134,7 +134,7 @@ module _ {A B : Type 0} (f : A → B) (g : B → A) (back : (a : A) → g (f a) 
       ∙ ap (λ t. option_map (map_heads g) (T.value_of op t)) (sym (apply-map f τ rule.left)) ∙ sym (value-back op (apply τ rule.left))
 
   -- and well formed
-  pub well_formed-back : IsWellFormed T → IsWellFormed S
+  pub well_formed-back : IsWellFormedSystem T → IsWellFormedSystem S
   well_formed-back w = record {
     same = λ h k. w.same (f h) (f k);
     decides = λ h k. (λ e. sym (back h) ∙ ap g ((w.decides (f h) (f k)).0 e) ∙ back k, λ e. (w.decides (f h) (f k)).1 (ap f e));

@@ -8,7 +8,7 @@ use Rattle.eq_base.specs.Pattern.{PatternCell, fixed, variable, restricted, IsTe
 use Rattle.eq_base.specs.Testing.{IsTestedAt}
 use Rattle.eq_base.specs.Rewriting.{RightSide, pattern, operation, Rule, System, Gives, IsRedex}
 use Rattle.eq_base.proofs.Lists.{all_front, all_back}
-use Rattle.orthogonal_laws.specs.Orthogonal.{IsHead, IsWellFormed, IsOrthogonal}
+use Rattle.orthogonal_laws.specs.Orthogonal.{IsHead, IsWellFormedSystem, IsOrthogonal}
 use Rattle.orthogonal_laws.specs.Strategy.{HasNoDemandedRedex, none_demanded}
 use Rattle.orthogonal_laws.specs.Development.{Development, unmarked, marked, Developments, none, more, right_weight, variable_at, variable_in, marks, marks_in, AreRedexes, DevelopsBy}
 use Rattle.orthogonal_laws.proofs.Members.{In, in_first, in_next, in_left, in_right, in-contains, get-in}
@@ -169,7 +169,7 @@ module _ {H : Type 0} where
   part_at c σ (grow (node (restricted y class) us) ps) a (suc i) q s e there =
       let p = part_at c σ ps a.1 i q s e there in record { part = p.part; stands = p.stands; tested = p.tested; fits = p.fits }
 
-module _ {H : Type 0} (system : System H) (w : IsWellFormed system) (o : IsOrthogonal system) where
+module _ {H : Type 0} (system : System H) (w : IsWellFormedSystem system) (o : IsOrthogonal system) where
   -- developments of a list of trees, which mark exactly the positions of a set
   record AllDevelop (ts : Forest H) (set : ℕ → Position → Bool) : Type 0 where
     results : Forest H

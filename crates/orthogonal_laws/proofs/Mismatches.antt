@@ -4,7 +4,7 @@ use Rattle.std.specs.Prelude.{IsTrue, ◌↔◌}
 use Rattle.eq_base.specs.Tree.{Tree, Forest, node, empty, grow, head_of, arity_of, count, total_size}
 use Rattle.eq_base.specs.Pattern.{PatternCell, fixed, variable, restricted, Classes, IsTested}
 use Rattle.eq_base.proofs.Instances.{FitAll}
-use Rattle.orthogonal_laws.specs.Matching.{AreMet, none_met, head_met, variable_met, constant_met, IsFirstMismatch, here, below, after}
+use Rattle.orthogonal_laws.specs.Matching.{AreMet, none_met, head_met, variable_met, constant_met, IsFirstFailure, here, below, after}
 use Rattle.orthogonal_laws.proofs.LeftSides.{Label, Patterns, Last, Test, Meets, skeleton}
 use Rattle.orthogonal_laws.proofs.Matchers.{Matcher, Stop, run, path, Alive}
 use Rattle.orthogonal_laws.proofs.Paths.{path-run}
@@ -34,7 +34,7 @@ module _ {H : Type 0} (same : H → H → Bool) (decides : (g h : H) → IsTrue 
       reaches_after (subst Alive (sym comes) (reaches-alive r)) (subst (λ z. Reaches z ts (suc n)) (sym comes) r) e'
 
   -- a path fails where the trees first fail to meet its patterns
-  pub mismatch-reaches : {ps : Forest (PatternCell H)} {ts : Forest H} {n : ℕ} → IsFirstMismatch in_class ps ts n → (f : H) (k : Forest H → Matcher H) → Reaches (path f (tests same in_class ps) k) ts (suc n)
+  pub mismatch-reaches : {ps : Forest (PatternCell H)} {ts : Forest H} {n : ℕ} → IsFirstFailure in_class ps ts n → (f : H) (k : Forest H → Matcher H) → Reaches (path f (tests same in_class ps) k) ts (suc n)
   mismatch-reaches (here {p = node (fixed g) us} {t = node h vs} fails e) f k =
       reaches_within (not_alive _ (test_of same in_class (fixed g) (count us) (h, count vs)) (λ met. fails (test-meets same decides in_class (fixed g) us h vs tt met))) (ap suc e)
   mismatch-reaches (here {p = node (variable x) us} fails e) f k = absurd (fails tt)
@@ -53,7 +53,7 @@ module _ {H : Type 0} (same : H → H → Bool) (decides : (g h : H) → IsTrue 
       past f _ Last (tests same in_class ps) h vs ts k n x.0 x.1 (λ k. mismatch-reaches m f k) _ (omega (arith, e))
 
   -- so does the matcher of a rule
-  pub failure-reaches : (left : Tree (PatternCell H)) (h : H) (args : Forest H) (n : ℕ) → IsFirstMismatch in_class (grow left empty) (grow (node h args) empty) n → IsTested (head_of left) → (k : Forest H → Matcher H) →
+  pub failure-reaches : (left : Tree (PatternCell H)) (h : H) (args : Forest H) (n : ℕ) → IsFirstFailure in_class (grow left empty) (grow (node h args) empty) n → IsTested (head_of left) → (k : Forest H → Matcher H) →
       Reaches (cond (test_of same in_class (head_of left) (arity_of left) (h, count args)) (path h (args_tests same in_class left) k) Stop) args n
   failure-reaches (node (fixed g) us) h args n (here fails e) tested k =
       subst (λ n. Reaches (cond (test_of same in_class (fixed g) (count us) (h, count args)) (path h (tests same in_class us) k) Stop) args n) (sym e)

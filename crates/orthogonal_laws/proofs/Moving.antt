@@ -6,7 +6,7 @@ use Rattle.std.proofs.lemmas.List.{append-nil}
 use Rattle.eq_base.specs.Tree.{Tree, Forest, node, empty, grow, map_heads, map_all_heads}
 use Rattle.eq_base.specs.Pattern.{PatternCell, fixed, variable, restricted, variables, all_variables, all_restrictions, Classes, Substitution, apply, IsInstanceOf}
 use Rattle.eq_base.specs.Rewriting.{RightSide, pattern, operation, Rule, System, Gives}
-use Rattle.orthogonal_laws.specs.Orthogonal.{IsBound, IsWellFormed, IsOrthogonal}
+use Rattle.orthogonal_laws.specs.Orthogonal.{IsBound, IsWellFormedSystem, IsOrthogonal}
 use Rattle.orthogonal_laws.proofs.Readings.{only, lookup_all, count_plain, readings, lookup_pattern, rename, rename_all, read_right}
 use Rattle.eq_base.proofs.Instances.{FitAll, all_bindings, Agrees, agrees_front, agrees_back}
 use Rattle.orthogonal_laws.specs.Development.{sum_of, right_weight}
@@ -92,7 +92,7 @@ module _ {H : Type 0} (same : H → H → Bool) (in_class : Classes H) where
       (((sym a.0 ∙ sym s.0.0, sym s.0.1), rest.0), rest.1, rest.2)
   moved f σ τ ρ w ω (grow (node (restricted y class) qs) ps) (grow (node h (grow u us)) ts) n others ms x a s o c = absurd x.0
 
-module _ {H : Type 0} (system : System H) (w : IsWellFormed system) (o : IsOrthogonal system) where
+module _ {H : Type 0} (system : System H) (w : IsWellFormedSystem system) (o : IsOrthogonal system) where
   -- the value and the weight of a right side that was read, over what the variables have become
   pub record Moved (h : H) (left : Tree (PatternCell H)) (τ : Substitution H) (v : ℕ → ℕ) (right : RightSide H) (r : Tree (PatternCell H)) (u : Tree H) : Type 0 where
     pub value : fill h r (plain_parts τ (grow left empty) empty) ≡ u

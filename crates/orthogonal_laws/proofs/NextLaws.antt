@@ -3,7 +3,7 @@ use Rattle.std.proofs.Common.{◌≡◌, ℕ, zero, suc, List, [], ◌∷◌, �
 use Rattle.std.specs.Prelude.{◌≢◌, Contains}
 use Rattle.eq_base.specs.Tree.{Tree, Forest, node, empty, grow, head_of, arity_of, count, Position, subtree_at, subtree_in}
 use Rattle.eq_base.specs.Pattern.{PatternCell, fixed, variable, restricted, IsTested, IsInstanceOf}
-use Rattle.orthogonal_laws.specs.Orthogonal.{IsHead, IsWellFormed, IsOrthogonal}
+use Rattle.orthogonal_laws.specs.Orthogonal.{IsHead, IsWellFormedSystem, IsOrthogonal}
 use Rattle.eq_base.specs.Testing.{IsTestedAt, IsPattern, ArePatterns}
 use Rattle.eq_base.specs.Rewriting.{Rule, System, RootStep, IsRedexBy, IsRedex, StepAt, IsNormal}
 use Rattle.orthogonal_laws.specs.Strategy.{HasNoDemandedRedex, IsNext, IsOutermost, FitsAt}
@@ -33,7 +33,7 @@ use Rattle.orthogonal_laws.proofs.Returning.{develop_one}
 use Rattle.orthogonal_laws.proofs.ForestStrategy.{Next}
 use Rattle.orthogonal_laws.proofs.SingleTrees.{next_alone}
 
-module _ {H : Type 0} (system : System H) (w : IsWellFormed system) (o : IsOrthogonal system) where
+module _ {H : Type 0} (system : System H) (w : IsWellFormedSystem system) (o : IsOrthogonal system) where
   -- a root step has one result
   pub one_result : (t u v : Tree H) → RootStep system t u → RootStep system t v → u ≡ v
   one_result (node h us) u v s s' =

@@ -2,7 +2,7 @@
 use Rattle.std.proofs.Common.{◌≡◌, ℕ, zero, suc, ◌<◌, [], ◌∷◌, inl, inr, Some, refl, subst, arith}
 use Rattle.eq_base.specs.Tree.{Tree, Forest, node, empty, grow, Position, subtree_at, subtree_in, IsBefore}
 use Rattle.eq_base.specs.Rewriting.{System}
-use Rattle.orthogonal_laws.specs.Orthogonal.{IsWellFormed, IsOrthogonal}
+use Rattle.orthogonal_laws.specs.Orthogonal.{IsWellFormedSystem, IsOrthogonal}
 use Rattle.orthogonal_laws.specs.Strategy.{IsDemanded, IsDemandedRedex, at_root, at_demanded, HasNoDemandedRedex, none_demanded, IsNext, demanded, in_argument, HasNoNext, none_next}
 use Rattle.orthogonal_laws.proofs.LeftSides.{fill}
 use Rattle.orthogonal_laws.proofs.ForestSteps.{At}
@@ -26,7 +26,7 @@ before-from (i ∷ p) (j ∷ q) (inr s) = subst (λ k. Before (i ∷ p) (k ∷ q
 on_tree : {H : Type 0} (P : Tree H → Type 0) → ((g : H) (us : Forest H) → P (node g us)) → (t : Tree H) → P t
 on_tree P f (node g us) = f g us
 
-module _ {H : Type 0} (system : System H) (w : IsWellFormed system) (o : IsOrthogonal system) where
+module _ {H : Type 0} (system : System H) (w : IsWellFormedSystem system) (o : IsOrthogonal system) where
   at_of : (h : H) (args : Forest H) (q : Position) (g : H) (us : Forest H) → IsDemanded system (node h args) q → subtree_at (node h args) q ≡ Some (node g us) → At args q g us
   at_of h args [] g us d e = absurd (d.not_root refl)
   at_of h args (i ∷ q) g us d e = stands-at args i q g us e

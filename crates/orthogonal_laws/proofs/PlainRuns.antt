@@ -8,7 +8,7 @@ use Rattle.symbol_table.specs.Reading.{read}
 use Rattle.eq_base.specs.declared.head.Head.{Head}
 use Rattle.eq_base.proofs.Positions.{subtree_at-nth_position}
 use Rattle.orthogonal_laws.specs.Next.{IsNextRedex}
-use Rattle.orthogonal_laws.specs.Orthogonal.{IsWellFormed, IsOrthogonal}
+use Rattle.orthogonal_laws.specs.Orthogonal.{IsWellFormedSystem, IsOrthogonal}
 use Rattle.orthogonal_laws.specs.Run.{IsEnd}
 use Rattle.orthogonal_laws.specs.Strategy.{IsNext, PlainRun, start, then, HasLength}
 use Rattle.orthogonal_laws.specs.declared.run.PlainEnd.TheVariants.{Normal, Spent}
@@ -20,7 +20,7 @@ pub run-derivation : {H : Type 0} {system : System H} {t u : Tree H} {n : ℕ} �
 run-derivation start = Derivation.start
 run-derivation (then q run next step) = Derivation.then (run-derivation run) (q, step)
 
-module _ {H : Type 0} (system : System H) (w : IsWellFormed system) (o : IsOrthogonal system) where
+module _ {H : Type 0} (system : System H) (w : IsWellFormedSystem system) (o : IsOrthogonal system) where
   -- the step at a position has one result
   step_one : (t u v : Tree H) (q : Position) → StepAt system t q u → StepAt system t q v → u ≡ v
   step_one t u v q a b =
@@ -45,7 +45,7 @@ module _ {H : Type 0} (system : System H) (w : IsWellFormed system) (o : IsOrtho
       (then (nth_position u at) run next.next
       (record { redex = nth_subtree u at; contractum = contractum; stands = subtree_at-nth_position u at next.there; root_step = (equation, s); result = sym result }))
 
-module _ (system : System ReadHead) (w : IsWellFormed system) (o : IsOrthogonal system) (t : Tree ReadHead) (budget : ℕ) (table : Table) where
+module _ (system : System ReadHead) (w : IsWellFormedSystem system) (o : IsOrthogonal system) (t : Tree ReadHead) (budget : ℕ) (table : Table) where
   pub normal_end : (n : ℕ) (u : Tree Head) → PlainRun system t n (read table u) → IsNormal system (read table u) → n ≤ budget → IsEnd system t budget table (Normal u n)
   normal_end n u run norm within =
       let has : HasLength system t n (read table u) = record { run = run; normal = norm } in

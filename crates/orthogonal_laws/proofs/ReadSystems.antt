@@ -16,7 +16,7 @@ use Rattle.symbol_table.specs.Table.{Table, HasOneNumberEach}
 use Rattle.symbol_table.specs.Reading.{read, read_rule, read_system, IsLiveEquation, AreLive, IsLiveTerm}
 use Rattle.symbol_table.proofs.Numberings.{read_all, head_for, read-head_for, class-head_for, class-read_all, live-rule, live-rule_for, live-term, live-term_for}
 use Rattle.sequentiality.specs.Regular.{AreRegular}
-use Rattle.orthogonal_laws.specs.Orthogonal.{IsWellFormed, IsOrthogonal, IsLawful}
+use Rattle.orthogonal_laws.specs.Orthogonal.{IsWellFormedSystem, IsOrthogonal, IsLawful}
 use Rattle.orthogonal_laws.specs.Readings.{AreRegularIn}
 use Rattle.orthogonal_laws.specs.Operations.{AreValuesBy}
 use Rattle.orthogonal_laws.specs.Next.{IsNextRedex, IsNextBy}
@@ -82,14 +82,14 @@ module _ (table : Table) (one : HasOneNumberEach table) where
     }
 
     module _ (regular : AreRegular es) where
-      pub number_well_formed : IsWellFormed (number_system table es)
+      pub number_well_formed : IsWellFormedSystem (number_system table es)
       number_well_formed = regular_well_formed (number_values table) es regular
 
       pub number_orthogonal : IsOrthogonal (number_system table es)
       number_orthogonal = regular_orthogonal (number_values table) es regular
 
       -- regular equations, as they are read, are well formed and orthogonal
-      pub read_well_formed : IsWellFormed (read_system table es)
+      pub read_well_formed : IsWellFormedSystem (read_system table es)
       read_well_formed = well_formed-back (head_for table) (read_all table) (read-head_for table) (read_system table es) (number_system table es) for_read from_numbers number_well_formed
 
       pub read_orthogonal : IsOrthogonal (read_system table es)

@@ -5,7 +5,7 @@ use Rattle.std.specs.List.{IsDistinct}
 use Rattle.std.proofs.lemmas.List.{map-append, append-nil}
 use Rattle.eq_base.specs.Tree.{Tree, Forest, node, empty, grow, head_of, arity_of, count, map_heads, map_all_heads}
 use Rattle.eq_base.specs.Pattern.{PatternCell, fixed, variable, restricted, IsTested, variables, all_variables, restrictions, Classes, Substitution, apply, apply_all, IsInstanceOf}
-use Rattle.orthogonal_laws.specs.Orthogonal.{IsHead, IsBound, IsWellFormed, IsOrthogonal}
+use Rattle.orthogonal_laws.specs.Orthogonal.{IsHead, IsBound, IsWellFormedSystem, IsOrthogonal}
 use Rattle.eq_base.specs.Rewriting.{RightSide, pattern, operation, Rule, System, Gives, IsInstance, RootStep}
 use Rattle.orthogonal_laws.proofs.Readings.{only, lookup_all, count_plain, readings, lookup_pattern, rename, rename_all, read_right}
 use Rattle.eq_base.specs.declared.rules.Op.{Op}
@@ -53,7 +53,7 @@ module _ {H : Type 0} (in_class : Classes H) where
   keys-readings (grow (node (variable x) qs) ps) (grow t ts) n f = ap (λ z. x ∷ z) (keys-readings ps ts (suc n) f.1)
   keys-readings (grow (node (restricted x class) qs) ps) (grow (node h us) ts) n f = ap (λ z. x ∷ z) (keys-readings ps ts n f.1)
 
-module _ {H : Type 0} (system : System H) (w : IsWellFormed system) where
+module _ {H : Type 0} (system : System H) (w : IsWellFormedSystem system) where
   -- a rule with its left side as tests
   abbrev pub compile : Rule H → Compiled H
   compile rule = record {
@@ -105,7 +105,7 @@ module _ {H : Type 0} (system : System H) (w : IsWellFormed system) where
   pub instance-fit : (p : Tree (PatternCell H)) (t : Tree H) → IsInstanceOf system.in_class p t → FitAll system.in_class (grow p empty) (grow t empty)
   instance-fit p t i = (fits_from_instance system.in_class p t i, tt)
 
-module _ {H : Type 0} (system : System H) (w : IsWellFormed system) (o : IsOrthogonal system) where
+module _ {H : Type 0} (system : System H) (w : IsWellFormedSystem system) (o : IsOrthogonal system) where
   -- the value of an operation is that of the tree with bare heads for the plain variables
   pub bare-value : (rule : Rule H) → Contains system.rules rule → (op : Op) → rule.right ≡ operation op → (f : H) (t s : Tree H) → IsInstanceOf system.in_class rule.left t → skeleton f (left_tests system w rule.left) (grow t empty) ≡ grow s empty → system.value_of op t ≡ system.value_of op s
   bare-value rule listed op e f t s i same =

@@ -211,7 +211,7 @@ module _ (value_of : Op → Tree Head → Option (Tree Head)) (es : List Equatio
       let k = in-get (contains-in c) in
       same_value value_of op e.left (applied_of es r k.0 e k.1 op is) σ τ agree
 
-  pub regular_well_formed : orthogonal.IsWellFormed system
+  pub regular_well_formed : orthogonal.IsWellFormedSystem system
   regular_well_formed = record {
     same = same_head;
     decides = same_head_decides;

@@ -5,7 +5,7 @@ use Rattle.std.proofs.lemmas.Bool.{cases_lt}
 use Rattle.eq_base.specs.Tree.{Tree, node, empty, grow, Position, IsBefore}
 use Rattle.eq_base.specs.Pattern.{PatternCell, fixed, variable, restricted}
 use Rattle.eq_base.specs.Testing.{IsTestedAt, IsPattern}
-use Rattle.orthogonal_laws.specs.Orthogonal.{TestSame, ClashFirst, IsWellFormed, IsOrthogonal}
+use Rattle.orthogonal_laws.specs.Orthogonal.{TestSame, ClashFirst, IsWellFormedSystem, IsOrthogonal}
 use Rattle.eq_base.specs.Rewriting.{Rule, System}
 use Rattle.orthogonal_laws.specs.Orthogonal as orthogonal
 use Rattle.orthogonal_laws.proofs.Members.{contains-in, in-contains, map-in, in-get}
@@ -22,7 +22,7 @@ in_one t = record { part = t.part; stands = t.stands; tested = t.tested }
 abbrev one_in : {H : Type 0} {p : Tree (PatternCell H)} {q : Position} → TestedIn (grow p empty) 0 q → IsTestedAt p q
 one_in t = record { part = t.part; stands = t.stands; tested = t.tested }
 
-module _ {H : Type 0} (system : System H) (w : IsWellFormed system) (o : IsOrthogonal system) where
+module _ {H : Type 0} (system : System H) (w : IsWellFormedSystem system) (o : IsOrthogonal system) where
   -- trees that clash first
   trees_clash : (p r : Tree (PatternCell H)) → IsPattern p → IsPattern r → ClashFirst system.in_class p r → Clash (left_tests system w p) (left_tests system w r)
   trees_clash p r a b c =

@@ -8,7 +8,7 @@ use Rattle.orthogonal_laws.specs.Matching.{IsLastFailure}
 use Rattle.orthogonal_laws.specs.Next.{IsArgumentToward}
 use Rattle.orthogonal_laws.specs.Operations.{Values}
 use Rattle.eq_base.specs.Rules.{system_of}
-use Rattle.orthogonal_laws.specs.Orthogonal.{IsWellFormed, IsOrthogonal}
+use Rattle.orthogonal_laws.specs.Orthogonal.{IsWellFormedSystem, IsOrthogonal}
 use Rattle.orthogonal_laws.specs.Strategy.{HasNoDemandedRedex}
 use Rattle.orthogonal_laws.proofs.Matchers.{Matcher, Stop, tree}
 use Rattle.orthogonal_laws.proofs.Sequential.{Apart, beside_stop_left, Guarded, guarded_stop}
@@ -28,7 +28,7 @@ use Rattle.orthogonal_laws.proofs.Followed.{IsLater, IsQuiet, own, later_reaches
 use Rattle.orthogonal_laws.proofs.Arguments.{place_of}
 use Rattle.orthogonal_laws.proofs.Descending.{size_args, argument_in, later_of}
 
-module _ (values : Values) (es : List Equation) (w : IsWellFormed (system_of values es)) (o : IsOrthogonal (system_of values es)) where
+module _ (values : Values) (es : List Equation) (w : IsWellFormedSystem (system_of values es)) (o : IsOrthogonal (system_of values es)) where
   -- left sides above the node are still met there and fail last at another, and neither they nor those at the node find a redex below
   pub record IsResting (s : Tree Head) (n : ℕ) : Type 0 where
     pub matcher : Matcher Head

@@ -5,7 +5,7 @@ use Rattle.eq_base.specs.Tree.{Tree, map_heads, Position, size, nth_subtree, nth
 use Rattle.eq_base.specs.Rewriting.{System, IsRedexBy, IsRedex, IsNormal}
 use Rattle.eq_base.proofs.Trees.{size-map_heads, nth_subtree-map_heads}
 use Rattle.eq_base.proofs.Mapped.{subtree_at-map, subtree_at-unmap, map-back, nth_position-map}
-use Rattle.orthogonal_laws.specs.Orthogonal.{IsWellFormed, IsOrthogonal}
+use Rattle.orthogonal_laws.specs.Orthogonal.{IsWellFormedSystem, IsOrthogonal}
 use Rattle.orthogonal_laws.specs.Strategy.{IsDemanded, IsDemandedRedex, at_root, at_demanded, HasNoDemandedRedex, none_demanded, IsNext, demanded, in_argument, HasNoNext, none_next}
 use Rattle.orthogonal_laws.specs.Looking.{IsFirstFit}
 use Rattle.orthogonal_laws.specs.Next.{IsNextRedex}
@@ -53,8 +53,8 @@ module _ {A B : Type 0} (f : A → B) (g : B → A) (back : (a : A) → g (f a) 
 
   -- ---- next redexes, both ways, where the image is orthogonal
 
-  module _ (w : IsWellFormed T) (o : IsOrthogonal T) where
-    own_well_formed : IsWellFormed S
+  module _ (w : IsWellFormedSystem T) (o : IsOrthogonal T) where
+    own_well_formed : IsWellFormedSystem S
     own_well_formed = well_formed-back f g back S T image returns w
 
     own_orthogonal : IsOrthogonal S

@@ -7,7 +7,7 @@ use Rattle.std.proofs.lemmas.List.{append-nil, map-append}
 use Rattle.eq_base.specs.Tree.{Tree, Forest, node, empty, grow}
 use Rattle.eq_base.specs.Pattern.{PatternCell, fixed, variable, restricted, variables, all_variables, all_restrictions, Substitution}
 use Rattle.eq_base.specs.Rewriting.{Rule, System, Gives}
-use Rattle.orthogonal_laws.specs.Orthogonal.{IsWellFormed, IsOrthogonal}
+use Rattle.orthogonal_laws.specs.Orthogonal.{IsWellFormedSystem, IsOrthogonal}
 use Rattle.eq_base.proofs.Instances.{FitAll, all_bindings, Agrees, agrees_front, agrees_back}
 use Rattle.orthogonal_laws.specs.Development.{Development, unmarked, marked, Developments, none, more, right_weight}
 use Rattle.eq_base.proofs.Lists.{all_both, all_front}
@@ -150,7 +150,7 @@ module _ {H : Type 0} (system : System H) (same : H → H → Bool) where
             (two.still τ v (all_rest system τ v one.list two.list f));
       }
 
-module _ {H : Type 0} (system : System H) (w : IsWellFormed system) (o : IsOrthogonal system) where
+module _ {H : Type 0} (system : System H) (w : IsWellFormedSystem system) (o : IsOrthogonal system) where
   each-none : (us : Forest H) (ns : List ℕ) → Each system empty us ns → (us ≡ empty) × (ns ≡ [])
   each-none empty [] e = (refl, refl)
   each-none empty (n ∷ ns) e = absurd e

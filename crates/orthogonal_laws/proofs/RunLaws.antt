@@ -5,8 +5,8 @@ use Rattle.eq_base.specs.Tree.{Tree, Forest, node, empty, grow, replace_at, Posi
 use Rattle.eq_base.specs.Pattern.{PatternCell}
 use Rattle.eq_base.specs.Rewriting.{System, RootStep, StepAt, IsDerivable, IsNormal}
 use Rattle.orthogonal_laws.specs.Convertible.{IsConvertible}
-use Rattle.orthogonal_laws.specs.Orthogonal.{IsWellFormed, IsOrthogonal}
-use Rattle.orthogonal_laws.specs.Strategy.{IsNext, PlainRun, HasLength, Answers, normal, spent}
+use Rattle.orthogonal_laws.specs.Orthogonal.{IsWellFormedSystem, IsOrthogonal}
+use Rattle.orthogonal_laws.specs.Strategy.{IsNext, PlainRun, HasLength, BudgetAnswers, normal, spent}
 use Rattle.orthogonal_laws.specs.Strategy as strategy
 use Rattle.orthogonal_laws.specs.Development.{Development, Replaced, here, below, ReplacedAll, nothing, also, replaces, replaces_in, SharedStep}
 use Rattle.orthogonal_laws.proofs.LeftSides.{fill, Redex}
@@ -26,7 +26,7 @@ use Rattle.orthogonal_laws.proofs.Returning.{develop_one}
 use Rattle.orthogonal_laws.proofs.SingleTrees.{run_before, length-to, length-from, derivable-to, derivable-from, joined-to}
 use Rattle.orthogonal_laws.proofs.NextLaws.{one_result, next_one, normal_or_next_redex, next_not_normal, next_has_step}
 
-module _ {H : Type 0} (system : System H) (w : IsWellFormed system) (o : IsOrthogonal system) where
+module _ {H : Type 0} (system : System H) (w : IsWellFormedSystem system) (o : IsOrthogonal system) where
   -- what develops to a term with a length has a length, and the same end
   pub run_before_development : (t u v : Tree H) (m n : ℕ) → Development system t u m → HasLength system u n v → (k : ℕ) × HasLength system t k v
   run_before_development t u v m n d l =
@@ -130,11 +130,11 @@ module _ {H : Type 0} (system : System H) (w : IsWellFormed system) (o : IsOrtho
           (y.0, subst (λ z. HasLength system u y.0 z) e z.has, y.2)
 
   -- with each budget the plain run has an answer
-  answer_after : {t u : Tree H} {q : Position} {budget : ℕ} → IsNext system t q → StepAt system t q u → Answers system u budget → Answers system t (suc budget)
+  answer_after : {t u : Tree H} {q : Position} {budget : ℕ} → IsNext system t q → StepAt system t q u → BudgetAnswers system u budget → BudgetAnswers system t (suc budget)
   answer_after n s (normal l le) = normal (record { run = run_before system w o n s l.run; normal = l.normal }) (omega arith)
   answer_after n s (spent run left) = spent (run_before system w o n s run) left
 
-  pub answer : (budget : ℕ) (t : Tree H) → Answers system t budget
+  pub answer : (budget : ℕ) (t : Tree H) → BudgetAnswers system t budget
   answer zero t =
       elim (normal_or_next_redex system w o t) [
         | inl n ↦ normal (record { run = strategy.start; normal = n }) (omega arith)

@@ -7,7 +7,7 @@ use Rattle.eq_base.specs.Pattern.{PatternCell, fixed, variable, restricted, vari
 use Rattle.eq_base.specs.Rewriting.{RightSide, pattern, operation, Rule, System, Gives, IsInstance}
 use Rattle.eq_base.specs.declared.rules.Op.{Op}
 use Rattle.eq_base.proofs.Instances.{FitAll, all_bindings, Agrees, instance_from_fits}
-use Rattle.orthogonal_laws.specs.Orthogonal.{SameRight, IsBound, IsWellFormed, IsOrthogonal}
+use Rattle.orthogonal_laws.specs.Orthogonal.{SameRight, IsBound, IsWellFormedSystem, IsOrthogonal}
 use Rattle.eq_base.proofs.Lists.{all_front}
 use Rattle.orthogonal_laws.proofs.Members.{In, contains-in, all-in}
 use Rattle.orthogonal_laws.proofs.LeftSides.{Patterns, opens, Alike, alike_last, alike_open, alike_test}
@@ -76,7 +76,7 @@ module _ {H : Type 0} (same : H → H → Bool) (in_class : Classes H) where
   recoded_one n f (node (variable x) ps) t = (_, refl)
   recoded_one n f (node (restricted x class) ps) t = (_, refl)
 
-module _ {H : Type 0} (system : System H) (w : IsWellFormed system) where
+module _ {H : Type 0} (system : System H) (w : IsWellFormedSystem system) where
   -- the size of what a right side gives
   abbrev value_size : Option (Tree H) → ℕ
   value_size None = 0
@@ -129,7 +129,7 @@ module _ {H : Type 0} (system : System H) (w : IsWellFormed system) where
         some_value None y z = absurd (cc)
         some_value (Some u) y z = (u, sym (value-kept op e j) ∙ y)
 
-module _ {H : Type 0} (system : System H) (w : IsWellFormed system) (o : IsOrthogonal system) where
+module _ {H : Type 0} (system : System H) (w : IsWellFormedSystem system) (o : IsOrthogonal system) where
   -- wherever both left sides fit, the right sides read the same
   pub same_reading : (a b : Rule H) → Contains system.rules a → Contains system.rules b → Alike (tests w.same system.in_class (grow a.left empty)) (tests w.same system.in_class (grow b.left empty)) → SameRight system a b →
       (f : H) (t : Tree H) → IsInstanceOf system.in_class a.left t → IsInstanceOf system.in_class b.left t → read_right system a.left t a.right ≡ read_right system b.left t b.right

@@ -4,7 +4,7 @@ use Rattle.eq_base.specs.Tree.{Tree, Forest, empty, grow, head_of, Position}
 use Rattle.eq_base.specs.Rewriting as rewriting
 use Rattle.eq_base.specs.Rewriting.{System, StepAt, Derivation, start, then, IsDerivable, IsNormal}
 use Rattle.orthogonal_laws.specs.Convertible.{IsConvertible, same, forth, back}
-use Rattle.orthogonal_laws.specs.Orthogonal.{IsWellFormed, IsOrthogonal}
+use Rattle.orthogonal_laws.specs.Orthogonal.{IsWellFormedSystem, IsOrthogonal}
 use Rattle.orthogonal_laws.specs.Strategy.{IsNext, PlainRun, HasLength}
 use Rattle.orthogonal_laws.specs.Strategy as strategy
 use Rattle.orthogonal_laws.proofs.LeftSides.{Compiled}
@@ -18,7 +18,7 @@ derives_on : {H : Type 0} {rules : List (Compiled H)} {ts us vs : Forest H} → 
 derives_on no_step d = d
 derives_on (then_step s d) d' = then_step s (derives_on d d')
 
-module _ {H : Type 0} (system : System H) (w : IsWellFormed system) (o : IsOrthogonal system) where
+module _ {H : Type 0} (system : System H) (w : IsWellFormedSystem system) (o : IsOrthogonal system) where
   pub next_alone : {t : Tree H} {p : Position} → Next (compiled system w) (grow t empty) p → (q : Position) × (p ≡ 0 ∷ q)
   next_alone (next_demand {p = p} d) = (p, refl)
   next_alone (next_below {p = p} x n) = (p, refl)

@@ -2,7 +2,7 @@
 use Rattle.std.proofs.Common.{◌≡◌, ℕ, zero, suc, [], ◌∷◌, Some, refl, sym, ap, subst}
 use Rattle.eq_base.specs.Tree.{Tree, Forest, node, empty, grow, Position, subtree_at, subtree_in, replace_at, replace_in}
 use Rattle.eq_base.specs.Rewriting.{System, RootStep, IsRedex, StepAt, IsNormal}
-use Rattle.orthogonal_laws.specs.Orthogonal.{IsWellFormed, IsOrthogonal}
+use Rattle.orthogonal_laws.specs.Orthogonal.{IsWellFormedSystem, IsOrthogonal}
 use Rattle.orthogonal_laws.proofs.LeftSides.{fill, NoRedex}
 use Rattle.orthogonal_laws.proofs.ForestSteps.{At, at_here, at_below, at_after, Step, step_here, step_below, step_after, Normal, normal_nil, normal_cons}
 use Rattle.orthogonal_laws.proofs.Redexes.{compiled, redex-step, step-redex}
@@ -22,7 +22,7 @@ module _ {H : Type 0} where
   stands-at (grow (node h args) rest) zero (j ∷ q) g us e = at_below (stands-at args j q g us e)
   stands-at (grow t rest) (suc i) q g us e = at_after (stands-at rest i q g us e)
 
-module _ {H : Type 0} (system : System H) (w : IsWellFormed system) (o : IsOrthogonal system) where
+module _ {H : Type 0} (system : System H) (w : IsWellFormedSystem system) (o : IsOrthogonal system) where
   pub no_redex-to : (h : H) (us : Forest H) → NoRedex (compiled system w) h us → IsRedex system (node h us) → ⊥
   no_redex-to h us none r = let x = step-redex system w o h us r.0 r.1 in none x.right x.parts x.redex
 

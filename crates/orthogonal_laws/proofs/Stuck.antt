@@ -22,7 +22,7 @@ use Rattle.orthogonal_laws.specs.Looking.{IsFirstFit, IsFirstMet}
 use Rattle.orthogonal_laws.specs.Operations.{Values, AreValuesBy, HasResult}
 use Rattle.symbol_table.specs.Table.{Table}
 use Rattle.symbol_table.specs.Reading.{IsLiveTerm}
-use Rattle.orthogonal_laws.specs.Orthogonal.{ClashFirst, IsWellFormed, IsOrthogonal}
+use Rattle.orthogonal_laws.specs.Orthogonal.{ClashFirst, IsWellFormedSystem, IsOrthogonal}
 use Rattle.orthogonal_laws.specs.Strategy.{HasNoDemandedRedex}
 use Rattle.orthogonal_laws.proofs.Members.{get-in, in-contains, in-map}
 use Rattle.orthogonal_laws.proofs.RegularLists.{applied_of}
@@ -115,7 +115,7 @@ module _ (values : Values) (es : List Equation) (number : ℕ) (t : Tree Head) (
   pub met_fits : (u : Tree Head) → RightGives es number m.equation m.listed values m.equation.right m.met.substitution t u → IsFirstFit (system_of values es) number t
   met_fits u g = record { redex = redex_from_met es number m.equation m.listed values t u m.met g; first = none_before }
 
-  module _ (w : IsWellFormed (system_of values es)) (o : IsOrthogonal (system_of values es)) (regular : AreRegular es) (op : Op) (is : m.equation.right ≡ rights.Schema op) (none : values op t ≡ None) where
+  module _ (w : IsWellFormedSystem (system_of values es)) (o : IsOrthogonal (system_of values es)) (regular : AreRegular es) (op : Op) (is : m.equation.right ≡ rights.Schema op) (none : values op t ≡ None) where
     abbrev system : System Head
     system = system_of values es
 
@@ -208,7 +208,7 @@ module _ (table : Table) (values : Values) (by : AreValuesBy table values) (es :
       let u = result_of m.equation.right (subst (λ e. HasResult table e.right t) same has) in
       met_fits values es number t m u.0 u.1
 
-  module _ (w : IsWellFormed (system_of values es)) (o : IsOrthogonal (system_of values es)) (regular : AreRegular es) (whole : Tree Head) (n place : ℕ) (f : IsFollowed (system_of values es) w o whole t n place) where
+  module _ (w : IsWellFormedSystem (system_of values es)) (o : IsOrthogonal (system_of values es)) (regular : AreRegular es) (whole : Tree Head) (n place : ℕ) (f : IsFollowed (system_of values es) w o whole t n place) where
     by_right : (right : Right) → m.equation.right ≡ right → (HasResult table right t → ⊥) → HasNoDemandedRedex (system_of values es) whole
     by_right (rights.Tree p) is fails = absurd (fails tt)
     by_right (rights.Schema op) is fails = stuck_end values es number t m w o regular op is (none_of (values op t) (λ some. fails ((by op t live).0 some))) whole n place f

@@ -18,12 +18,17 @@ module _ {H : Type 0} where
   -- a development of t to u, and its weight: an unmarked root stays over the developments of the arguments, and a marked one gives the right side over the developments of what the variables stand for
   mutual
     pub data Development (system : System H) : Tree H → Tree H → ℕ → Type 0 where
-      unmarked : {h : H} {ts us : Forest H} {n : ℕ} → Developments system ts us n → Development system (node h ts) (node h us) n
-      marked : {t u : Tree H} (rule : Rule H) (σ τ : Substitution H) (weights : ℕ → ℕ) → Contains system.rules rule → apply σ rule.left ≡ t → Respects system.in_class σ rule.left → ((x : ℕ) → Development system (σ x) (τ x) (weights x)) → Gives system τ rule.right t u → Development system t u (suc (right_weight weights rule.right))
+      unmarked : {h : H} {ts us : Forest H} {n : ℕ} → Developments system ts us n
+          → Development system (node h ts) (node h us) n
+      marked : {t u : Tree H} (rule : Rule H) (σ τ : Substitution H) (weights : ℕ → ℕ)
+          → Contains system.rules rule → apply σ rule.left ≡ t → Respects system.in_class σ rule.left
+          → ((x : ℕ) → Development system (σ x) (τ x) (weights x)) → Gives system τ rule.right t u
+          → Development system t u (suc (right_weight weights rule.right))
 
     pub data Developments (system : System H) : Forest H → Forest H → ℕ → Type 0 where
       none : Developments system empty empty 0
-      more : {t u : Tree H} {ts us : Forest H} {m n : ℕ} → Development system t u m → Developments system ts us n → Developments system (grow t ts) (grow u us) (m + n)
+      more : {t u : Tree H} {ts us : Forest H} {m n : ℕ} → Development system t u m
+          → Developments system ts us n → Developments system (grow t ts) (grow u us) (m + n)
 
   -- the variable of the pattern at the position or above it, and the way on from there; none where the pattern tests the position
   abbrev mutual
@@ -47,14 +52,16 @@ module _ {H : Type 0} where
     marks (marked rule σ τ weights listed applied respects ds gives) (i ∷ q) =
         elim (variable_at rule.left (i ∷ q)) [ None ↦ false | Some v ↦ marks (ds v.0) v.1 ]
 
-    pub marks_in : {system : System H} {ts us : Forest H} {n : ℕ} → Developments system ts us n → ℕ → Position → Bool
+    pub marks_in : {system : System H} {ts us : Forest H} {n : ℕ} → Developments system ts us n → ℕ → Position
+        → Bool
     marks_in none i q = false
     marks_in (more d ds) zero q = marks d q
     marks_in (more d ds) (suc i) q = marks_in ds i q
 
   -- each position of the set holds a redex of t
   abbrev pub AreRedexes : System H → Tree H → (Position → Bool) → Type 0
-  AreRedexes system t set = (q : Position) → IsTrue (set q) → (s : Tree H) × (subtree_at t q ≡ Some s) × IsRedex system s
+  AreRedexes system t set = (q : Position) → IsTrue (set q) → (s : Tree H) × (subtree_at t q ≡ Some s)
+      × IsRedex system s
 
   -- t has a development that marks exactly the positions of the set
   pub record DevelopsBy (system : System H) (t : Tree H) (set : Position → Bool) : Type 0 where
@@ -71,7 +78,8 @@ module _ {H : Type 0} where
 
     pub data ReplacedAll (s v : Tree H) : Forest H → Forest H → Type 0 where
       nothing : ReplacedAll s v empty empty
-      also : {t u : Tree H} {ts us : Forest H} → Replaced s v t u → ReplacedAll s v ts us → ReplacedAll s v (grow t ts) (grow u us)
+      also : {t u : Tree H} {ts us : Forest H} → Replaced s v t u → ReplacedAll s v ts us
+          → ReplacedAll s v (grow t ts) (grow u us)
 
   -- whether the position is one of them
   abbrev mutual

@@ -20,7 +20,8 @@ pub record IsFirstMet (equations : List Equation) (number : ℕ) (t : Tree Head)
   pub equation : Equation
   pub listed : slice_get equations number ≡ Some equation
   pub met : IsInstanceOf in_symbol_class equation.left t
-  pub first : (k : ℕ) (e : Equation) → k < number → slice_get equations k ≡ Some e → IsInstanceOf in_symbol_class e.left t → ⊥
+  pub first : (k : ℕ) (e : Equation) → k < number → slice_get equations k ≡ Some e
+      → IsInstanceOf in_symbol_class e.left t → ⊥
 
 -- the first equation whose left side is met at the node, or else the last node at which one first fails
 abbrev pub IsLook : List Equation → Tree Head → ℕ → Look → Type 0

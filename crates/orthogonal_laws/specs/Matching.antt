@@ -19,21 +19,32 @@ module _ {H : Type 0} (in_class : Classes H) where
   -- the trees meet the patterns everywhere
   pub data AreMet : Forest (PatternCell H) → Forest H → Type 0 where
     none_met : AreMet empty empty
-    head_met : {h : H} {us ps : Forest (PatternCell H)} {vs ts : Forest H} → AreMet us vs → AreMet ps ts → AreMet (grow (node (fixed h) us) ps) (grow (node h vs) ts)
-    variable_met : {x : ℕ} {us ps : Forest (PatternCell H)} {t : Tree H} {ts : Forest H} → AreMet ps ts → AreMet (grow (node (variable x) us) ps) (grow t ts)
-    constant_met : {x class : ℕ} {us ps : Forest (PatternCell H)} {t : Tree H} {ts : Forest H} → IsConstantOf in_class class t → AreMet ps ts → AreMet (grow (node (restricted x class) us) ps) (grow t ts)
+    head_met : {h : H} {us ps : Forest (PatternCell H)} {vs ts : Forest H} → AreMet us vs → AreMet ps ts
+        → AreMet (grow (node (fixed h) us) ps) (grow (node h vs) ts)
+    variable_met : {x : ℕ} {us ps : Forest (PatternCell H)} {t : Tree H} {ts : Forest H} → AreMet ps ts
+        → AreMet (grow (node (variable x) us) ps) (grow t ts)
+    constant_met : {x class : ℕ} {us ps : Forest (PatternCell H)} {t : Tree H} {ts : Forest H}
+        → IsConstantOf in_class class t → AreMet ps ts
+        → AreMet (grow (node (restricted x class) us) ps) (grow t ts)
 
   -- the first node at which the trees do not meet the patterns, in preorder, is that with this number
-  pub data IsFirstMismatch : Forest (PatternCell H) → Forest H → ℕ → Type 0 where
-    here : {p : Tree (PatternCell H)} {ps : Forest (PatternCell H)} {t : Tree H} {ts : Forest H} {k : ℕ} → (MeetsRoot in_class p t → ⊥) → k ≡ 0 → IsFirstMismatch (grow p ps) (grow t ts) k
-    below : {h : H} {us ps : Forest (PatternCell H)} {vs ts : Forest H} {k n : ℕ} → count us ≡ count vs → IsFirstMismatch us vs k → n ≡ suc k → IsFirstMismatch (grow (node (fixed h) us) ps) (grow (node h vs) ts) n
-    after : {p : Tree (PatternCell H)} {ps : Forest (PatternCell H)} {t : Tree H} {ts : Forest H} {k n : ℕ} → AreMet (grow p empty) (grow t empty) → IsFirstMismatch ps ts k → n ≡ size t + k → IsFirstMismatch (grow p ps) (grow t ts) n
+  pub data IsFirstFailure : Forest (PatternCell H) → Forest H → ℕ → Type 0 where
+    here : {p : Tree (PatternCell H)} {ps : Forest (PatternCell H)} {t : Tree H} {ts : Forest H} {k : ℕ}
+        → (MeetsRoot in_class p t → ⊥) → k ≡ 0 → IsFirstFailure (grow p ps) (grow t ts) k
+    below : {h : H} {us ps : Forest (PatternCell H)} {vs ts : Forest H} {k n : ℕ} → count us ≡ count vs
+        → IsFirstFailure us vs k → n ≡ suc k
+        → IsFirstFailure (grow (node (fixed h) us) ps) (grow (node h vs) ts) n
+    after : {p : Tree (PatternCell H)} {ps : Forest (PatternCell H)} {t : Tree H} {ts : Forest H} {k n : ℕ}
+        → AreMet (grow p empty) (grow t empty) → IsFirstFailure ps ts k → n ≡ size t + k
+        → IsFirstFailure (grow p ps) (grow t ts) n
 
 -- the tree first fails to meet the pattern at the node with this number
 abbrev pub FailsAt : Tree (PatternCell heads.Head) → Tree heads.Head → ℕ → Type 0
-FailsAt p t n = IsFirstMismatch in_symbol_class (grow p empty) (grow t empty) n
+FailsAt p t n = IsFirstFailure in_symbol_class (grow p empty) (grow t empty) n
 
 -- the tree meets no left side, and the last of the nodes at which it first fails to meet one has this number
 pub record IsLastFailure (equations : List Equation) (t : Tree heads.Head) (n : ℕ) : Type 0 where
-  pub each : (number : ℕ) (e : Equation) → slice_get equations number ≡ Some e → (k : ℕ) × FailsAt e.left t k × (k ≤ n)
-  pub some : (n ≡ 0) ⊎ ((number : ℕ) × (e : Equation) × (slice_get equations number ≡ Some e) × FailsAt e.left t n)
+  pub each : (number : ℕ) (e : Equation) → slice_get equations number ≡ Some e → (k : ℕ) × FailsAt e.left t k
+      × (k ≤ n)
+  pub some : (n ≡ 0) ⊎ ((number : ℕ) × (e : Equation) × (slice_get equations number ≡ Some e)
+      × FailsAt e.left t n)

@@ -48,7 +48,7 @@ module _ {H : Type 0} where
 
   -- what holds of every list of rules that a file gives: equality of heads is decided, left sides are
   -- patterns with a head at the root, and the value of an operation depends on restricted variables alone
-  pub record IsWellFormed (system : System H) : Type 0 where
+  pub record IsWellFormedSystem (system : System H) : Type 0 where
     pub same : H → H → Bool
     pub decides : (g h : H) → IsTrue (same g h) ↔ (g ≡ h)
     pub patterns : (rule : Rule H) → Contains system.rules rule → IsPattern rule.left
@@ -71,5 +71,5 @@ module _ {H : Type 0} where
 
   -- what the laws ask of a system: it is well formed, and orthogonal
   pub record IsLawful (system : System H) : Type 0 where
-    pub well_formed : IsWellFormed system
+    pub well_formed : IsWellFormedSystem system
     pub orthogonal : IsOrthogonal system

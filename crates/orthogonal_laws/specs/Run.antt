@@ -26,7 +26,8 @@ IsLiveEnd table (Spent u) = IsLiveTerm table u
 
 -- as the table reads it: it is normal, with its end and its length, exactly where the length is at most the
 -- budget; and spent exactly where what the whole budget leads to is not normal
-pub record IsEnd (system : System ReadHead) (t : Tree ReadHead) (budget : ℕ) (table : Table) (end : PlainEnd) : Type 0 where
+pub record IsEnd (system : System ReadHead) (t : Tree ReadHead) (budget : ℕ) (table : Table)
+    (end : PlainEnd) : Type 0 where
   pub normal : (v : Tree ReadHead) (n : ℕ) → IsNormalEnd table end v n
       ↔ (HasLength system t n v × (n ≤ budget))
   pub spent : (u : Tree ReadHead) → IsSpentEnd table end u

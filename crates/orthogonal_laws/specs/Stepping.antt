@@ -10,7 +10,8 @@ use Rattle.symbol_table.specs.Table.{Table}
 use Rattle.symbol_table.specs.Reading.{read, read_head, read_system, IsLiveHead, IsLiveTerm}
 
 -- u, as the new table reads it, is t after the root step at a node by the equation with this number
-pub record IsReadStep (old new : Table) (equations : List Equation) (t : Tree Head) (at number : ℕ) (u : Tree Head) : Type 0 where
+pub record IsReadStep (old new : Table) (equations : List Equation) (t : Tree Head) (at number : ℕ)
+    (u : Tree Head) : Type 0 where
   pub contractum : Tree ReadHead
   pub root_step : RootStepBy (read_system old equations) number (nth_subtree (read old t) at) contractum
   pub result : read new u ≡ replace_at (read old t) (nth_position (read old t) at) contractum
@@ -18,7 +19,8 @@ pub record IsReadStep (old new : Table) (equations : List Equation) (t : Tree He
 
 -- the heads are strings, short enough together
 abbrev pub AreJoined : Table → Head → Head → Type 0
-AreJoined table (Text m) (Text n) = length (slice_index_or table.texts m []) + length (slice_index_or table.texts n []) ≤ 65535
+AreJoined table (Text m) (Text n) =
+    length (slice_index_or table.texts m []) + length (slice_index_or table.texts n []) ≤ 65535
 AreJoined table one other = ⊥
 
 -- the head is live in the new table, and is read as the one string with the other behind it

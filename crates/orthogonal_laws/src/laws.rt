@@ -12,7 +12,7 @@ ghost use Rattle.symbol_table.specs.Table.{Table};
 ghost use Rattle.symbol_table.specs.Reading.{read_system};
 ghost use Rattle.sequentiality.specs.Regular.{AreRegular};
 ghost use Rattle.orthogonal_laws.specs.Orthogonal.{IsLawful};
-ghost use Rattle.orthogonal_laws.specs.Strategy.{IsDemanded, IsDemandedRedex, HasNoDemandedRedex, IsNext, HasNoNext, PlainRun, HasLength, IsOutermost, Answers};
+ghost use Rattle.orthogonal_laws.specs.Strategy.{IsDemanded, IsDemandedRedex, HasNoDemandedRedex, IsNext, HasNoNext, PlainRun, HasLength, IsOutermost, BudgetAnswers};
 ghost use Rattle.orthogonal_laws.specs.Development.{Development, marks, AreRedexes, DevelopsBy, SharedStep, IsKept};
 ghost use Rattle.orthogonal_laws.specs.Convertible.{IsConvertible};
 ghost use Rattle.orthogonal_laws.specs.Addition.{addition};
@@ -125,7 +125,7 @@ pub fn run_finds<H>()
 /// then its length is not at most the budget.
 pub fn budget_answers<H>()
     ensures answered { (system : System H) → IsLawful system
-        → (budget : ℕ) (t : Tree H) → Answers system t budget }
+        → (budget : ℕ) (t : Tree H) → BudgetAnswers system t budget }
     ensures spent_right { (system : System H) → IsLawful system
         → (t u v : Tree H) (budget n : ℕ) → PlainRun system t budget u → (IsNormal system u → ⊥)
         → HasLength system t n v → budget < n }

@@ -39,7 +39,8 @@ pub fn look_at(rules: &Rules, term: &Flat, at: usize) -> Look
 pub fn first_mismatch(left: &Pattern, term: &Flat, at: usize) -> Option<usize>
     requires linear { IsLinear left.now }
     requires at { at < size term.now }
-    ensures { MatchOption result (IsInstanceOf in_symbol_class left.now (nth_subtree term.now at)) (λ node. (at ≤ node) × FailsAt left.now (nth_subtree term.now at) (node - at)) }
+    ensures { MatchOption result (IsInstanceOf in_symbol_class left.now (nth_subtree term.now at))
+        (λ node. (at ≤ node) × FailsAt left.now (nth_subtree term.now at) (node - at)) }
 {
     let len = term.len();
     let mut i = 0;

@@ -39,7 +39,8 @@ pub fn step(
     requires live { AreLive symbols.old rules.now }
     requires live_term { IsLiveTerm symbols.old term.now }
     requires at { at < size term.now }
-    requires redex { IsRedexBy (read_system symbols.old rules.now) equation (nth_subtree (read symbols.old term.now) at) }
+    requires redex { IsRedexBy (read_system symbols.old rules.now) equation
+        (nth_subtree (read symbols.old term.now) at) }
     ensures ok { IfOk result (IsReadStep symbols.old symbols.new rules.now term.now at equation) }
     ensures keeps { Keeps symbols.old symbols.new }
 {
@@ -80,8 +81,10 @@ fn value_head(op: Op, symbols: &mut Symbols, term: &Flat, at: usize) -> Result<H
 fn join_at(symbols: &mut Symbols, term: &Flat, at: usize) -> Result<Head, NoMemory>
     requires live { IsLiveTerm symbols.old term.now }
     requires there { at + 2 < size term.now }
-    requires joins { AreJoined symbols.old (head_of (nth_subtree term.now (at + 1))) (head_of (nth_subtree term.now (at + 2))) }
-    ensures ok { IfOk result (IsJoined symbols.old symbols.new (head_of (nth_subtree term.now (at + 1))) (head_of (nth_subtree term.now (at + 2)))) }
+    requires joins { AreJoined symbols.old (head_of (nth_subtree term.now (at + 1)))
+        (head_of (nth_subtree term.now (at + 2))) }
+    ensures ok { IfOk result (IsJoined symbols.old symbols.new (head_of (nth_subtree term.now (at + 1)))
+        (head_of (nth_subtree term.now (at + 2)))) }
     ensures keeps { Keeps symbols.old symbols.new }
 {
     let len = term.len();

@@ -70,16 +70,19 @@ IsOverLeft left right = (at x : ℕ) → OccursAt right at x → (k : ℕ) × Oc
 
 -- the part of the merge that the variable stands for
 abbrev pub IsPartOf : (left other : Tree (PatternCell Head)) → ℕ → MergedPart → Type 0
-IsPartOf left other x part = (θ : Substitution (PatternCell Head)) → fill θ left ≡ merged left other → θ x ≡ part_of_merge other part
+IsPartOf left other x part = (θ : Substitution (PatternCell Head)) → fill θ left ≡ merged left other
+    → θ x ≡ part_of_merge other part
 
 -- the answer tells whether the right side reads as the part, under the merge
 abbrev pub ReadsAs : (left other right : Tree (PatternCell Head)) → Tree (PatternCell Head) → Bool → Type 0
-ReadsAs left other right part answer = (θ : Substitution (PatternCell Head)) → fill θ left ≡ merged left other → IsTrue answer ↔ (fill θ right ≡ part)
+ReadsAs left other right part answer = (θ : Substitution (PatternCell Head)) → fill θ left ≡ merged left other
+    → IsTrue answer ↔ (fill θ right ≡ part)
 
 -- the answer tells whether right sides read the same, under the merge
 abbrev pub ReadsSame : (left right other other_right : Tree (PatternCell Head)) → Bool → Type 0
 ReadsSame left right other other_right answer =
-    (θ η : Substitution (PatternCell Head)) → fill θ left ≡ merged left other → fill η other ≡ merged other left → IsTrue answer ↔ (fill θ right ≡ fill η other_right)
+    (θ η : Substitution (PatternCell Head)) → fill θ left ≡ merged left other
+    → fill η other ≡ merged other left → IsTrue answer ↔ (fill θ right ≡ fill η other_right)
 
 -- a cell with its number of arguments, where a variable has this name
 abbrev pub named_cell : ℕ → cells.Cell → PatternCell Head × ℕ

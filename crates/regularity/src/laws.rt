@@ -12,11 +12,16 @@ ghost use Rattle.regularity.specs.WellFormed.{AreWellFormed};
 
 /// Two patterns that repeat no variable have a common instance exactly where some term is an instance of both.
 pub fn common_instances()
-    ensures { (p r : Tree (PatternCell Head)) → AreCompatible p r → HaveCommon in_symbol_class p r ↔ HaveSharedInstance p r }
+    ensures { (p r : Tree (PatternCell Head)) → AreCompatible p r → HaveCommon in_symbol_class p r
+        ↔ HaveSharedInstance p r }
 {}
 
 /// A part of a left side and a left side of a well-formed list, of equations that break neither RE1 nor RE2, have a
 /// common instance exactly where some term is an instance of both.
 pub fn common_instances_of_parts()
-    ensures { (equations : List Equation) → AreWellFormed equations → LeftSidesHaveHeads equations → (n m place : ℕ) (one other : Equation) → IsListedSingle equations n one → IsListedSingle equations m other → place < size one.left → HaveCommon in_symbol_class (nth_subtree one.left place) other.left ↔ HaveSharedInstance (nth_subtree one.left place) other.left }
+    ensures { (equations : List Equation) → AreWellFormed equations → LeftSidesHaveHeads equations
+        → (n m place : ℕ) (one other : Equation) → IsListedSingle equations n one
+        → IsListedSingle equations m other → place < size one.left
+        → HaveCommon in_symbol_class (nth_subtree one.left place) other.left
+        ↔ HaveSharedInstance (nth_subtree one.left place) other.left }
 {}

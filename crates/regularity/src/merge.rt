@@ -30,7 +30,8 @@ pub fn is_same_right(one: &Equation, other: &Equation) -> bool
     requires common { HaveCommon in_symbol_class one.now.left other.now.left }
     requires one { IsWellFormed one.now × IsSingle one.now }
     requires other { IsWellFormed other.now × IsSingle other.now }
-    ensures { IsTrue result ↔ IsSameRight one.now.left other.now.left (right_side one.now.right) (right_side other.now.right) }
+    ensures { IsTrue result
+        ↔ IsSameRight one.now.left other.now.left (right_side one.now.right) (right_side other.now.right) }
 {
     let (Right::Tree(right), Right::Tree(other_right)) = (&one.right, &other.right) else {
         return false;

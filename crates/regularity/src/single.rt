@@ -110,7 +110,8 @@ fn is_linear(left: &Pattern) -> bool
 
 // Whether each variable of the right side occurs on the left side.
 fn is_bound(equation: &Equation) -> bool
-    ensures { IsTrue result ↔ ((at : ℕ) → HasUnbound equation.now.left (right_side equation.now.right) at → ⊥) }
+    ensures { IsTrue result
+        ↔ ((at : ℕ) → HasUnbound equation.now.left (right_side equation.now.right) at → ⊥) }
 {
     let Right::Tree(right) = &equation.right else {
         return true;

@@ -15,5 +15,6 @@ pub record AreRegular (equations : List Equation) : Type 0 where
 
 -- the equations are refused: they come back with the list of all violations, which is not empty; or there was no memory
 abbrev pub IsRefused : List Equation → AdmitError → Type 0
-IsRefused equations (Broken breaks rules) = (rules ≡ equations) × Lists (IsViolation equations) breaks × (0 < length breaks)
+IsRefused equations (Broken breaks rules) = (rules ≡ equations) × Lists (IsViolation equations) breaks
+    × (0 < length breaks)
 IsRefused equations NoMemory = Unit {0}

@@ -19,4 +19,9 @@ abbrev mutual
 
 -- the terms of the grammar, their outlines, and the plain fault of a misplaced lexeme
 abbrev pub standmath : Notation
-standmath = record { Written = Written; IsTerm = IsTerm; outline = outline; Misplaced = λ IsSentence. Plainly }
+standmath = record {
+  Written = Written;
+  IsTerm = IsTerm;
+  outline = outline;
+  Misplaced = λ IsSentence. Plainly;
+}

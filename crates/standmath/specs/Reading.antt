@@ -13,4 +13,5 @@ ReadsTerm table text at term end = written.ReadsTerm standmath table text at ter
 
 -- the text from `at` to `end` is a written term, which takes as many lexemes as it can and means this pattern
 abbrev pub ReadsPattern : Table → List (List ℕ) → List ℕ → ℕ → Tree (PatternCell ReadHead) → ℕ → Type 0
-ReadsPattern table variables text at pattern end = written.ReadsPattern standmath table variables text at pattern end
+ReadsPattern table variables text at pattern end =
+    written.ReadsPattern standmath table variables text at pattern end

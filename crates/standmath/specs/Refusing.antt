@@ -21,5 +21,6 @@ abbrev pub IsTermAt : Table → List ℕ → ℕ → Result (Tree ReadHead × �
 IsTermAt table text at answer = written.IsTermAt standmath table text at answer
 
 -- what reading a pattern comes to: the pattern and the place after it, or the fault
-abbrev pub IsPatternAt : Table → List (List ℕ) → List ℕ → ℕ → Result (Tree (PatternCell ReadHead) × ℕ) Fault → Type 0
+abbrev pub IsPatternAt : Table → List (List ℕ) → List ℕ → ℕ → Result (Tree (PatternCell ReadHead) × ℕ) Fault
+    → Type 0
 IsPatternAt table variables text at answer = written.IsPatternAt standmath table variables text at answer

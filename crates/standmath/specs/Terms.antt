@@ -41,7 +41,8 @@ abbrev mutual
   spelling (Constant x) = Word x ∷ []
   spelling (Value x) = Literal x ∷ []
   spelling (Empty x) = Word x ∷ Sign OpenRound ∷ Sign CloseRound ∷ []
-  spelling (Call x first others) = Word x ∷ Sign OpenRound ∷ (spelling first ++ behind_commas others ++ Sign CloseRound ∷ [])
+  spelling (Call x first others) =
+      Word x ∷ Sign OpenRound ∷ (spelling first ++ behind_commas others ++ Sign CloseRound ∷ [])
 
   -- each of them behind a comma
   pub behind_commas : Others → List Terminal

@@ -28,7 +28,8 @@ text_behind text_of args (suc written) = behind_commas text_of (later_trees (suc
 abbrev pub text_left : (Head → List ℕ) → List (Tree Head) → List Open → List ℕ
 text_left text_of trees [] = []
 text_left text_of trees (application ∷ others) =
-    text_behind text_of (args_of (tree_at trees application.node)) application.written ++ text_left text_of trees others
+    text_behind text_of (args_of (tree_at trees application.node)) application.written
+    ++ text_left text_of trees others
 
 -- more than the number of steps in which it is written
 abbrev pub steps_left : (Head → List ℕ) → List (Tree Head) → List Open → ℕ

@@ -22,7 +22,8 @@ fn term_at(
     at: usize,
 ) -> Result<(Flat, usize), ReadError>
     requires { at ≤ length text.now }
-    ensures answer { AnswersRight (IsTermAt (names_of symbols.old) text.now at) (as_read (read symbols.new) result) }
+    ensures answer { AnswersRight (IsTermAt (names_of symbols.old) text.now at)
+        (as_read (read symbols.new) result) }
     ensures live { IfOk result (λ x. IsLiveTerm symbols.new x.0) }
     ensures keeps { Keeps symbols.old symbols.new }
 {
@@ -66,7 +67,8 @@ pub fn read_term(
     at: usize,
 ) -> Result<(Flat, usize), ReadError>
     requires { at ≤ length text.now }
-    ensures answer { AnswersRight (IsTermAt (names_of symbols.old) text.now at) (as_read (read symbols.new) result) }
+    ensures answer { AnswersRight (IsTermAt (names_of symbols.old) text.now at)
+        (as_read (read symbols.new) result) }
     ensures only { (other : Result (Tree ReadHead × ℕ) Wrong)
         → IsTermAt (names_of symbols.old) text.now at other
         → AnswersAs other (as_read (read symbols.new) result) }

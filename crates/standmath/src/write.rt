@@ -57,7 +57,8 @@ fn write_next<T: TermView>(
     requires others { AreOpen symbols.now (T.trees view.now) (reverse others.old.items) }
     ensures text { OnOk result (
         into.new.items ++ text_left (text_in symbols.now) (T.trees view.now) (reverse others.new.items)
-        ≡ into.old.items ++ text_left (text_in symbols.now) (T.trees view.now) (innermost ∷ reverse others.old.items)) }
+        ≡ into.old.items
+        ++ text_left (text_in symbols.now) (T.trees view.now) (innermost ∷ reverse others.old.items)) }
     ensures opens { OnOk result (AreOpen symbols.now (T.trees view.now) (reverse others.new.items)) }
     ensures shorter { OnOk result (
         steps_left (text_in symbols.now) (T.trees view.now) (reverse others.new.items)
@@ -99,8 +100,10 @@ pub fn write_term<T: TermView>(
     requires node { node < length (T.trees view.now) }
     requires printable { IsLiveTerm symbols.now (tree_at (T.trees view.now) node) }
     ensures ok { OnOk result (into.new.items
-        ≡ into.old.items ++ print (names_of symbols.now) (read symbols.now (tree_at (T.trees view.now) node))) }
-    ensures read_again { IsReadableTerm (names_of symbols.now) (read symbols.now (tree_at (T.trees view.now) node))
+        ≡ into.old.items
+        ++ print (names_of symbols.now) (read symbols.now (tree_at (T.trees view.now) node))) }
+    ensures read_again { IsReadableTerm (names_of symbols.now)
+        (read symbols.now (tree_at (T.trees view.now) node))
         → IsReadAgain (names_of symbols.now) (read symbols.now (tree_at (T.trees view.now) node)) }
     ensures front { IsFront into.old.items into.new.items }
 {

@@ -1,5 +1,6 @@
 use crate::{SymbolError, Symbols, Variables};
-use eq_base::{Head, SymbolClass};
+use eq_base::Head;
+use std::alloc::Global;
 use std::test::Fail;
 use term_lex::FaultKind;
 
@@ -30,24 +31,12 @@ fn names_declared(rt: HostRuntime) -> Result<(), Fail> {
 #[test]
 fn truth_values_included(rt: HostRuntime) -> Result<(), Fail> {
     let mut symbols = Symbols::new(rt.alloc());
-    symbols.include(b"truth_values")?;
-    assert_eq!(rt; symbols.find(b"true"), Some((0, 0)));
-    assert_eq!(rt; symbols.find(b"false"), Some((1, 0)));
-    assert_eq!(rt; symbols.declare(b"true", 0), Err(TWICE));
-    assert_eq!(rt; symbols.include(b"truth_values"), Err(TWICE));
-    Ok(())
-}
-
-#[test]
-fn truth_value_declared(rt: HostRuntime) -> Result<(), Fail> {
-    let mut symbols = Symbols::new(rt.alloc());
-    assert_eq!(rt; symbols.declare(b"true", 3), Ok(2));
-    assert_eq!(rt; symbols.include(b"truth_values"), Err(TWICE));
-    let unknown_class = SymbolError::Refused(FaultKind::UnknownClass);
-    assert_eq!(rt; symbols.include(b"truth"), Err(unknown_class));
-    assert_eq!(rt; symbols.include(b"strings"), Ok(()));
-    assert!(rt; symbols.included(SymbolClass::Strings.number()));
-    assert!(rt; !symbols.included(SymbolClass::TruthValues.number()));
+    for want in [Ok(()), Err(TWICE)] {
+        assert_eq!(rt; symbols.include(b"truth_values"), want);
+    }
+    for (name, want) in [(b"true".as_slice(), (0, 0)), (b"false", (1, 0))] {
+        assert_eq!(rt; symbols.find(name), Some(want));
+    }
     Ok(())
 }
 
@@ -78,30 +67,21 @@ fn names_resolved(rt: HostRuntime) -> Result<(), Fail> {
 fn texts_joined(rt: HostRuntime) -> Result<(), Fail> {
     let mut symbols = Symbols::new(rt.alloc());
     let one = symbols.intern_text(b"ab")?;
-    let other = symbols.intern_text(b"c")?;
-    let both = symbols.intern_joined(one, other)?;
-    assert_eq!(rt; both, 2);
-    assert_eq!(rt; symbols.text(both), b"abc".as_slice());
-    assert_eq!(rt; symbols.intern_text(b"abc")?, both);
+    let both = symbols.intern_joined(one, one)?;
+    assert_eq!(rt; symbols.text(both), b"abab".as_slice());
     Ok(())
 }
 
-#[test]
-fn atoms_given_up(rt: HostRuntime) -> Result<(), Fail> {
-    let mut symbols = Symbols::new(rt.alloc());
-    assert_eq!(rt; symbols.intern_atom(b"a")?, 0);
-    let mark = symbols.mark();
-    assert_eq!(rt; symbols.intern_atom(b"b")?, 1);
-    symbols.cut_to(mark);
-    assert_eq!(rt; symbols.intern_atom(b"c")?, 1);
-    assert_eq!(rt; symbols.intern_atom(b"a")?, 0);
-    Ok(())
+/// A table that declares one constant.
+fn with_constant(alloc: Global, name: &[u8]) -> Result<Symbols, SymbolError> {
+    let mut symbols = Symbols::new(alloc);
+    symbols.declare(name, 0)?;
+    Ok(symbols)
 }
 
 #[test]
 fn variables_added(rt: HostRuntime) -> Result<(), Fail> {
-    let mut symbols = Symbols::new(rt.alloc());
-    symbols.declare(b"z", 0)?;
+    let symbols = with_constant(rt.alloc(), b"z")?;
     let mut variables = Variables::new(rt.alloc());
     let twice = SymbolError::Refused(FaultKind::VariableTwice);
     for (name, want) in [

@@ -16,12 +16,14 @@ use Rattle.written_terms.specs.Notation.{Notation}
 -- included
 abbrev pub NamesHead : Table → List ℕ → ℕ → ReadHead → Type 0
 NamesHead table name args (symbol n) = IsDeclared table name n args
-NamesHead table name args (atom bytes) = (¬ HasName table name) × (args ≡ 0) × Includes table Atoms × (bytes ≡ name)
+NamesHead table name args (atom bytes) = (¬ HasName table name) × (args ≡ 0) × Includes table Atoms
+    × (bytes ≡ name)
 NamesHead table name args head = ⊥
 
 -- a literal: a numeral with its value, or a string with the bytes that it holds, where their class is included
 abbrev pub IsLiteral : Table → Lexeme → ReadHead → Type 0
-IsLiteral table x (numeral value) = IsKind Numeral x × Includes table Numerals × (value ≡ numeral_value x.bytes)
+IsLiteral table x (numeral value) = IsKind Numeral x × Includes table Numerals
+    × (value ≡ numeral_value x.bytes)
 IsLiteral table x (text value) = IsKind Text x × Includes table Strings × IsString x.bytes value
 IsLiteral table x head = ⊥
 
@@ -61,5 +63,6 @@ module _ (table : Table) (variables : List (List ℕ)) where
     MeanTrees ts ps = ⊥
 
 -- the written term means the pattern
-abbrev pub Means : (notation : Notation) → Table → List (List ℕ) → notation.Written → Tree (PatternCell ReadHead) → Type 0
+abbrev pub Means : (notation : Notation) → Table → List (List ℕ) → notation.Written
+    → Tree (PatternCell ReadHead) → Type 0
 Means notation table variables written p = MeansTree table variables (notation.outline written) p

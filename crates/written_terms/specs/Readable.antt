@@ -29,4 +29,5 @@ IsReadableTerm table t = AllByRecursion (λ c. IsReadable table c.0 c.1) (cells 
 -- where a text goes on with this print of the term and a dot, the term is read, whatever comes after
 abbrev pub IsReadAgain : Notation → List ℕ → Table → Tree ReadHead → Type 0
 IsReadAgain notation print table t =
-    (bytes rest : List ℕ) (at : ℕ) → drop at bytes ≡ print ++ codes "." ++ rest → ReadsTerm notation table bytes at t (at + length print + 1)
+    (bytes rest : List ℕ) (at : ℕ) → drop at bytes ≡ print ++ codes "." ++ rest
+    → ReadsTerm notation table bytes at t (at + length print + 1)

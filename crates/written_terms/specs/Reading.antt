@@ -9,7 +9,8 @@ use Rattle.written_terms.specs.Notation.{Notation, IsSomeTerm, IsDotted}
 use Rattle.written_terms.specs.Meaning.{Means}
 
 -- the text from `at` to `end` is a written term and a dot, and the term means this ground term
-pub record ReadsTerm (notation : Notation) (table : Table) (text : List ℕ) (at : ℕ) (term : Tree ReadHead) (end : ℕ) : Type 0 where
+pub record ReadsTerm (notation : Notation) (table : Table) (text : List ℕ) (at : ℕ) (term : Tree ReadHead)
+    (end : ℕ) : Type 0 where
   pub written : notation.Written
   pub lexemes : List Lexeme
   pub scanned : Scans text at lexemes end
@@ -17,7 +18,8 @@ pub record ReadsTerm (notation : Notation) (table : Table) (text : List ℕ) (at
   pub means : Means notation table [] written (map_heads fixed term)
 
 -- the text from `at` to `end` is a written term, which takes as many lexemes as it can and means this pattern
-pub record ReadsPattern (notation : Notation) (table : Table) (variables : List (List ℕ)) (text : List ℕ) (at : ℕ) (pattern : Tree (PatternCell ReadHead)) (end : ℕ) : Type 0 where
+pub record ReadsPattern (notation : Notation) (table : Table) (variables : List (List ℕ)) (text : List ℕ)
+    (at : ℕ) (pattern : Tree (PatternCell ReadHead)) (end : ℕ) : Type 0 where
   pub written : notation.Written
   pub lexemes : List Lexeme
   pub reads : Reads (IsSomeTerm notation) text at lexemes end

@@ -53,7 +53,8 @@ module _ (table : Table) (variables : List (List ℕ)) where
 module _ (notation : Notation) where
   -- a name, a literal or a list of the term is at fault
   abbrev pub RefusesMeaning : Table → List (List ℕ) → notation.Written → Fault → Type 0
-  RefusesMeaning table variables written fault = IsFirstRefused table variables (cells (notation.outline written)) fault
+  RefusesMeaning table variables written fault =
+      IsFirstRefused table variables (cells (notation.outline written)) fault
 
   -- a term and its dot stand in the text from `at` on, and one of its lexemes means nothing
   pub record MeansNoTerm (table : Table) (text : List ℕ) (at : ℕ) (fault : Fault) : Type 0 where
@@ -66,10 +67,13 @@ module _ (notation : Notation) where
 
   -- why there is no ground term and its dot at the place: the first fault of their reading, or else of their names
   abbrev pub RefusesTerm : Table → List ℕ → ℕ → Fault → Type 0
-  RefusesTerm table text at fault = IsFirstFault (notation.Misplaced (IsSomeDotted notation)) (IsSomeDotted notation) text at fault ⊎ MeansNoTerm table text at fault
+  RefusesTerm table text at fault =
+      IsFirstFault (notation.Misplaced (IsSomeDotted notation)) (IsSomeDotted notation) text at fault
+      ⊎ MeansNoTerm table text at fault
 
   -- a term is read from `at` on, and one of its lexemes means nothing
-  pub record MeansNoPattern (table : Table) (variables : List (List ℕ)) (text : List ℕ) (at : ℕ) (fault : Fault) : Type 0 where
+  pub record MeansNoPattern (table : Table) (variables : List (List ℕ)) (text : List ℕ) (at : ℕ)
+      (fault : Fault) : Type 0 where
     pub written : notation.Written
     pub lexemes : List Lexeme
     pub end : ℕ
@@ -79,7 +83,9 @@ module _ (notation : Notation) where
 
   -- why there is no pattern at the place: the first fault of its reading, or else of its names
   abbrev pub RefusesPattern : Table → List (List ℕ) → List ℕ → ℕ → Fault → Type 0
-  RefusesPattern table variables text at fault = IsFirstFault (notation.Misplaced (IsSomeTerm notation)) (IsSomeTerm notation) text at fault ⊎ MeansNoPattern table variables text at fault
+  RefusesPattern table variables text at fault =
+      IsFirstFault (notation.Misplaced (IsSomeTerm notation)) (IsSomeTerm notation) text at fault
+      ⊎ MeansNoPattern table variables text at fault
 
   -- what reading a ground term and its dot comes to: the term and the place after the dot, or the fault
   abbrev pub IsTermAt : Table → List ℕ → ℕ → Result (Tree ReadHead × ℕ) Fault → Type 0
@@ -87,6 +93,7 @@ module _ (notation : Notation) where
   IsTermAt table text at (Err fault) = RefusesTerm table text at fault
 
   -- what reading a pattern comes to: the pattern and the place after it, or the fault
-  abbrev pub IsPatternAt : Table → List (List ℕ) → List ℕ → ℕ → Result (Tree (PatternCell ReadHead) × ℕ) Fault → Type 0
+  abbrev pub IsPatternAt : Table → List (List ℕ) → List ℕ → ℕ → Result (Tree (PatternCell ReadHead) × ℕ) Fault
+      → Type 0
   IsPatternAt table variables text at (Ok x) = ReadsPattern notation table variables text at x.0 x.1
   IsPatternAt table variables text at (Err fault) = RefusesPattern table variables text at fault

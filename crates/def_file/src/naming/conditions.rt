@@ -6,7 +6,7 @@ ghost use Rattle.eq_base.specs.declared.meeting.SymbolClass.{SymbolClass as Clas
 ghost use Rattle.symbol_table.specs.Table.{Table, Keeps, class_name};
 ghost use Rattle.term_lex.specs.Values.{IsTokenOf};
 ghost use Rattle.def_file.specs.Views.{condition, restriction};
-ghost use Rattle.def_file.specs.Names.{Qualified, ClassOf, bytes_of, restriction_places, condition_places};
+ghost use Rattle.def_file.specs.Names.{Qualified, ClassOf, token_bytes, restriction_places, condition_places};
 ghost use Rattle.def_file.specs.Naming.{ArePlaced, IsPlaced, IsTaking, knowing, qualified_names};
 ghost use Rattle.def_file.specs.Pairs.{AreRelated};
 ghost use Rattle.def_file.specs.Taking.{Lasts, TakesChoice, TakesCondition};
@@ -51,7 +51,8 @@ fn is_same(word: &[u8], other: &[u8]) -> bool
 fn is_qualified(text: &[u8], conditions: &[Condition], name: Token) -> bool
     requires placed { AllByRecursion (IsTokenOf text.now) (qualified_names conditions.now) }
     requires name { IsTokenOf text.now name }
-    ensures { IsTrue result ↔ Contains (map (bytes_of text.now) (qualified_names conditions.now)) (bytes_of text.now name) }
+    ensures { IsTrue result
+        ↔ Contains (map (token_bytes text.now) (qualified_names conditions.now)) (token_bytes text.now name) }
 {
     for condition in conditions {
         if is_same(bytes_of(text, condition.variable), bytes_of(text, name)) {
@@ -69,8 +70,10 @@ fn take_qualified(
     variables: &Variables,
 ) -> Result<u32, FileError>
     requires placed { IsPlaced text.now (Qualified (qualified_names before.now) name) }
-    ensures taking { (table : Table) (operations : List Operator) → IsTaking text.now (knowing table variables.now operations) (Qualified (qualified_names before.now) name ∷ []) (knowing table variables.now operations) result }
-    ensures variable { IfOk result (λ x. slice_get variables.now x ≡ Some (bytes_of text.now name)) }
+    ensures taking { (table : Table) (operations : List Operator)
+        → IsTaking text.now (knowing table variables.now operations)
+        (Qualified (qualified_names before.now) name ∷ []) (knowing table variables.now operations) result }
+    ensures variable { IfOk result (λ x. slice_get variables.now x ≡ Some (token_bytes text.now name)) }
 {
     let Some(variable) = variables.find(bytes_of(text, name)) else {
         return Err(refused(FaultKind::QualifiedUnknown, name));
@@ -84,8 +87,10 @@ fn take_qualified(
 /// The included class behind `is in`.
 fn take_class_of(text: &[u8], name: Token, symbols: &Symbols) -> Result<SymbolClass, FileError>
     requires placed { IsPlaced text.now (ClassOf name) }
-    ensures taking { (variables : List (List ℕ)) (operations : List Operator) → IsTaking text.now (knowing symbols.now variables operations) (ClassOf name ∷ []) (knowing symbols.now variables operations) result }
-    ensures class { IfOk result (λ class. bytes_of text.now name ≡ class_name class) }
+    ensures taking { (variables : List (List ℕ)) (operations : List Operator)
+        → IsTaking text.now (knowing symbols.now variables operations) (ClassOf name ∷ [])
+        (knowing symbols.now variables operations) result }
+    ensures class { IfOk result (λ class. token_bytes text.now name ≡ class_name class) }
 {
     let Some(class) = class_named(bytes_of(text, name)) else {
         return Err(refused(FaultKind::UnknownClass, name));
@@ -105,8 +110,12 @@ fn take_restriction(
     variables: &Variables,
 ) -> Result<Choice, FileError>
     requires placed { ArePlaced text.now (restriction_places (restriction written.now)) }
-    ensures taking { (operations : List Operator) → IsTaking text.now (knowing symbols.old variables.now operations) (restriction_places (restriction written.now)) (knowing symbols.new variables.now operations) result }
-    ensures choice { IfOk result (λ choice. Lasts (λ known table. TakesChoice text.now known table (restriction written.now) choice) symbols.new variables.now) }
+    ensures taking { (operations : List Operator)
+        → IsTaking text.now (knowing symbols.old variables.now operations)
+        (restriction_places (restriction written.now)) (knowing symbols.new variables.now operations) result }
+    ensures choice { IfOk result (λ choice. Lasts
+        (λ known table. TakesChoice text.now known table
+        (restriction written.now) choice) symbols.new variables.now) }
     ensures keeps { Keeps symbols.old symbols.new }
 {
     match written {
@@ -130,9 +139,17 @@ fn take_condition(
     symbols: &mut Symbols,
     variables: &Variables,
 ) -> Result<TakenCondition, FileError>
-    requires placed { ArePlaced text.now (Qualified (qualified_names before.now) condition.now.variable ∷ restriction_places (restriction condition.now.restriction)) }
-    ensures taking { (operations : List Operator) → IsTaking text.now (knowing symbols.old variables.now operations) (Qualified (qualified_names before.now) condition.now.variable ∷ restriction_places (restriction condition.now.restriction)) (knowing symbols.new variables.now operations) result }
-    ensures condition { IfOk result (λ taken. Lasts (λ known table. TakesCondition text.now known table condition.now.variable (restriction condition.now.restriction) taken) symbols.new variables.now) }
+    requires placed { ArePlaced text.now
+        (Qualified (qualified_names before.now) condition.now.variable
+        ∷ restriction_places (restriction condition.now.restriction)) }
+    ensures taking { (operations : List Operator)
+        → IsTaking text.now (knowing symbols.old variables.now operations)
+        (Qualified (qualified_names before.now) condition.now.variable
+        ∷ restriction_places (restriction condition.now.restriction))
+        (knowing symbols.new variables.now operations) result }
+    ensures condition { IfOk result
+        (λ taken. Lasts (λ known table. TakesCondition text.now known table condition.now.variable
+        (restriction condition.now.restriction) taken) symbols.new variables.now) }
     ensures keeps { Keeps symbols.old symbols.new }
 {
     let variable = take_qualified(text, before, condition.variable, variables)?;
@@ -153,8 +170,14 @@ pub fn take_conditions(
     variables: &Variables,
 ) -> Result<Vec<TakenCondition>, FileError>
     requires placed { ArePlaced text.now (condition_places [] (map condition conditions.now)) }
-    ensures taking { (operations : List Operator) → IsTaking text.now (knowing symbols.old variables.now operations) (condition_places [] (map condition conditions.now)) (knowing symbols.new variables.now operations) result }
-    ensures conditions { IfOk result (λ taken. Lasts (λ known table. AreRelated (λ c t. TakesCondition text.now known table c.variable c.restriction t) (map condition conditions.now) taken.items) symbols.new variables.now) }
+    ensures taking { (operations : List Operator)
+        → IsTaking text.now (knowing symbols.old variables.now operations)
+        (condition_places [] (map condition conditions.now))
+        (knowing symbols.new variables.now operations) result }
+    ensures conditions { IfOk result
+        (λ taken. Lasts (λ known table. AreRelated
+        (λ c t. TakesCondition text.now known table c.variable c.restriction t)
+        (map condition conditions.now) taken.items) symbols.new variables.now) }
     ensures keeps { Keeps symbols.old symbols.new }
 {
     let mut taken = Vec::new(alloc);

@@ -2,7 +2,7 @@
 ghost use Rattle.std.specs.Prelude.{◌≡◌, ◌≤◌, length, slice_range};
 ghost use Rattle.term_lex.specs.Values.{IsTokenOf};
 ghost use Rattle.symbol_table.specs.declared.error.SymbolError.TheVariants.{Refused as SymbolRefused};
-ghost use Rattle.def_file.specs.Names.{bytes_of};
+ghost use Rattle.def_file.specs.Names.{token_bytes};
 ghost use Rattle.def_file.specs.Errors.{refused_at};
 
 use crate::error::FileError;
@@ -12,7 +12,7 @@ use term_lex::{Fault, FaultKind, Token};
 /// The bytes of a token.
 pub fn bytes_of<'a>(text: &'a [u8], token: Token) -> &'a [u8]
     requires { IsTokenOf text.now token }
-    ensures { result.now ≡ bytes_of text.now token }
+    ensures { result.now ≡ token_bytes text.now token }
 {
     &text[token.from..token.to]
 }

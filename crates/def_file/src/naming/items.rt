@@ -4,7 +4,7 @@ ghost use Rattle.std.specs.List.{flat_map};
 ghost use Rattle.eq_base.specs.declared.rules.Op.{Op as Operator};
 ghost use Rattle.symbol_table.specs.Table.{Keeps};
 ghost use Rattle.def_file.specs.Views.{sides, equation_item};
-ghost use Rattle.def_file.specs.Names.{Operation, bytes_of, equation_places, item_places};
+ghost use Rattle.def_file.specs.Names.{Operation, token_bytes, equation_places, item_places};
 ghost use Rattle.def_file.specs.Naming.{ArePlaced, IsTaking, knowing};
 ghost use Rattle.def_file.specs.Operations.{operation_name};
 ghost use Rattle.def_file.specs.Pairs.{AreRelated};
@@ -55,8 +55,12 @@ fn take_equation(
     variables: &Variables,
 ) -> Result<TakenEquation, FileError>
     requires placed { ArePlaced text.now (equation_places (sides equation.now)) }
-    ensures taking { (operations : List Operator) → IsTaking text.now (knowing symbols.old variables.now operations) (equation_places (sides equation.now)) (knowing symbols.new variables.now operations) result }
-    ensures equation { IfOk result (λ taken. Lasts (λ known table. TakesEquation text.now known table (sides equation.now) taken) symbols.new variables.now) }
+    ensures taking { (operations : List Operator)
+        → IsTaking text.now (knowing symbols.old variables.now operations)
+        (equation_places (sides equation.now)) (knowing symbols.new variables.now operations) result }
+    ensures equation { IfOk result (λ taken. Lasts
+        (λ known table. TakesEquation text.now known table
+        (sides equation.now) taken) symbols.new variables.now) }
     ensures keeps { Keeps symbols.old symbols.new }
 {
     let left = take_term(alloc, text, equation.left, symbols, variables)?;
@@ -78,8 +82,12 @@ fn take_operations(
     operations: &mut Vec<Op>,
 ) -> Result<Vec<(Op, usize)>, FileError>
     requires placed { ArePlaced text.now (map Operation names.now) }
-    ensures taking { (variables : List (List ℕ)) → IsTaking text.now (knowing symbols.now variables operations.old.items) (map Operation names.now) (knowing symbols.now variables operations.new.items) result }
-    ensures operations { IfOk result (λ taken. AreRelated (λ name o. (bytes_of text.now name ≡ operation_name o.0) × (o.1 ≡ name.from)) names.now taken.items) }
+    ensures taking { (variables : List (List ℕ))
+        → IsTaking text.now (knowing symbols.now variables operations.old.items) (map Operation names.now)
+        (knowing symbols.now variables operations.new.items) result }
+    ensures operations { IfOk result
+        (λ taken. AreRelated (λ name o. (token_bytes text.now name ≡ operation_name o.0)
+        × (o.1 ≡ name.from)) names.now taken.items) }
 {
     let mut taken = Vec::new(alloc);
     for name in names {
@@ -100,8 +108,12 @@ fn take_item(
     operations: &mut Vec<Op>,
 ) -> Result<TakenItem, FileError>
     requires placed { ArePlaced text.now (item_places (equation_item item.now)) }
-    ensures taking { IsTaking text.now (knowing symbols.old variables.now operations.old.items) (item_places (equation_item item.now)) (knowing symbols.new variables.now operations.new.items) result }
-    ensures item { IfOk result (λ taken. Lasts (λ known table. TakesItem text.now known table before (equation_item item.now) taken) symbols.new variables.now) }
+    ensures taking { IsTaking text.now (knowing symbols.old variables.now operations.old.items)
+        (item_places (equation_item item.now))
+        (knowing symbols.new variables.now operations.new.items) result }
+    ensures item { IfOk result (λ taken. Lasts
+        (λ known table. TakesItem text.now known table before
+        (equation_item item.now) taken) symbols.new variables.now) }
     ensures keeps { Keeps symbols.old symbols.new }
 {
     match item {
@@ -182,10 +194,18 @@ pub fn take_items(
 ) -> Result<Taken, FileError>
     requires placed { ArePlaced text.now (flat_map item_places (map equation_item items.now)) }
     requires room { length items.now ≤ 2 ^ 24 }
-    ensures taking { IsTaking text.now (knowing symbols.old variables.now operations.old.items) (flat_map item_places (map equation_item items.now)) (knowing symbols.new variables.now operations.new.items) result }
-    ensures items { IfOk result (λ taken. Lasts (λ known table. MeanItems text.now known 1 (map equation_item items.now) (map (numbered_read table) taken.items.items)) symbols.new variables.now) }
-    ensures live { IfOk result (λ taken. Lasts (λ known table. AreLiveItems table taken.items.items) symbols.new variables.now) }
-    ensures limits { IfOk result (λ taken. Lasts (λ known table. AnswersLimits text.now known (all_limits 0 (flat_map equation_of (map equation_item items.now))) taken.fault) symbols.new variables.now) }
+    ensures taking { IsTaking text.now (knowing symbols.old variables.now operations.old.items)
+        (flat_map item_places (map equation_item items.now))
+        (knowing symbols.new variables.now operations.new.items) result }
+    ensures items { IfOk result (λ taken. Lasts
+        (λ known table. MeanItems text.now known 1 (map equation_item items.now)
+        (map (numbered_read table) taken.items.items)) symbols.new variables.now) }
+    ensures live { IfOk result (λ taken. Lasts
+        (λ known table. AreLiveItems table taken.items.items) symbols.new variables.now) }
+    ensures limits { IfOk result (λ taken. Lasts
+        (λ known table. AnswersLimits text.now known
+        (all_limits 0 (flat_map equation_of
+        (map equation_item items.now))) taken.fault) symbols.new variables.now) }
     ensures keeps { Keeps symbols.old symbols.new }
 {
     let mut taken = Taken {

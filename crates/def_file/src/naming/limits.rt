@@ -7,7 +7,7 @@ ghost use Rattle.def_file.specs.Names.{Known};
 ghost use Rattle.def_file.specs.Trees.{Condition as WrittenCondition};
 ghost use Rattle.def_file.specs.Pairs.{AreRelated};
 ghost use Rattle.def_file.specs.Sides.{Cells, alternatives_in, alternatives_of, limits_of, AnswersLimits};
-ghost use Rattle.def_file.specs.Taking.{IsTaken, HasSymbolRoot, TakesChoice, TakesCondition, TakesEquation};
+ghost use Rattle.def_file.specs.Taking.{IsSideTaken, HasDeclaredRoot, TakesChoice, TakesCondition, TakesEquation};
 ghost use Rattle.def_file.specs.declared.naming.conditions.TakenCondition.{TakenCondition as TakenValue};
 
 use super::conditions::{Choice, TakenCondition};
@@ -27,7 +27,7 @@ const RIGHT_CELLS: usize = 65_535;
 
 /// Whether a symbol stands at the root.
 fn is_application(pattern: &Pattern) -> bool
-    ensures { IsTrue result ↔ HasSymbolRoot pattern.now }
+    ensures { IsTrue result ↔ HasDeclaredRoot pattern.now }
 {
     match pattern.cell(0) {
         Cell::Head(Head::Symbol(_), _) => true,
@@ -37,7 +37,9 @@ fn is_application(pattern: &Pattern) -> bool
 
 /// The first of the alternatives that is too long.
 fn alternatives_fault(terms: &[usize], patterns: &[Pattern]) -> Option<Fault>
-    ensures { (text : List ℕ) (known : Known) (table : Table) → AreRelated (IsTaken text known table) terms.now patterns.now → AnswersLimits text known (map (Cells 255) terms.now) result }
+    ensures { (text : List ℕ) (known : Known) (table : Table)
+        → AreRelated (IsSideTaken text known table) terms.now patterns.now
+        → AnswersLimits text known (map (Cells 255) terms.now) result }
 {
     for (i, byte) in terms.iter().enumerate() {
         let Some(pattern) = patterns.get(i) else {
@@ -55,7 +57,9 @@ fn alternatives_fault(terms: &[usize], patterns: &[Pattern]) -> Option<Fault>
 
 /// The first alternative behind `is` that is too long.
 fn choice_fault(written: &Restriction, taken: &Choice) -> Option<Fault>
-    ensures { (text : List ℕ) (known : Known) (table : Table) → TakesChoice text known table (restriction written.now) taken.now → AnswersLimits text known (map (Cells 255) (alternatives_in (restriction written.now))) result }
+    ensures { (text : List ℕ) (known : Known) (table : Table)
+        → TakesChoice text known table (restriction written.now) taken.now
+        → AnswersLimits text known (map (Cells 255) (alternatives_in (restriction written.now))) result }
 {
     match (written, taken) {
         (Restriction::OneOf(terms), Choice::OneOf(patterns)) => alternatives_fault(terms, patterns),
@@ -65,7 +69,12 @@ fn choice_fault(written: &Restriction, taken: &Choice) -> Option<Fault>
 
 /// The first alternative of conditions that is too long.
 fn conditions_fault(conditions: &[Condition], taken: &[TakenCondition]) -> Option<Fault>
-    ensures { (text : List ℕ) (known : Known) (table : Table) → AreRelated (λ (c : WrittenCondition) (t : TakenValue). TakesCondition text known table c.variable c.restriction t) (map condition conditions.now) taken.now → AnswersLimits text known (map (Cells 255) (flat_map alternatives_of (map condition conditions.now))) result }
+    ensures { (text : List ℕ) (known : Known) (table : Table)
+        → AreRelated
+        (λ (c : WrittenCondition) (t : TakenValue). TakesCondition text known table c.variable c.restriction t)
+        (map condition conditions.now) taken.now
+        → AnswersLimits text known (map (Cells 255)
+        (flat_map alternatives_of (map condition conditions.now))) result }
 {
     for (i, written) in conditions.iter().enumerate() {
         let Some(next) = taken.get(i) else {
@@ -81,7 +90,9 @@ fn conditions_fault(conditions: &[Condition], taken: &[TakenCondition]) -> Optio
 
 /// The first limit that an equation passes, where so many stand before it.
 pub fn equation_fault(before: usize, written: &Sides, taken: &TakenEquation) -> Option<Fault>
-    ensures { (text : List ℕ) (known : Known) (table : Table) → TakesEquation text known table (sides written.now) taken.now → AnswersLimits text known (limits_of before (sides written.now)) result }
+    ensures { (text : List ℕ) (known : Known) (table : Table)
+        → TakesEquation text known table (sides written.now) taken.now
+        → AnswersLimits text known (limits_of before (sides written.now)) result }
 {
     if before >= EQUATIONS {
         return Some(Fault {

@@ -4,7 +4,7 @@ ghost use Rattle.std.specs.List.{AllByRecursion};
 ghost use Rattle.eq_base.specs.declared.rules.Op.{Op as Operator};
 ghost use Rattle.symbol_table.specs.Table.{IsDeclared, Includes, names_of};
 ghost use Rattle.def_file.specs.Operations.{operation_name, operation_symbol, operation_classes, HasNeeds};
-ghost use Rattle.def_file.specs.Names.{Operation, bytes_of};
+ghost use Rattle.def_file.specs.Names.{Operation, token_bytes};
 ghost use Rattle.def_file.specs.Naming.{IsPlaced, ArePlaced, IsTaking, knowing};
 
 use super::faults::{bytes_of, refused};
@@ -37,7 +37,8 @@ const LENGTHSTR: &[u8] = b"lengthstr";
 
 /// The equation class with the name.
 fn operation_named(name: &[u8]) -> Option<Op>
-    ensures { MatchOption result ((op : Operator) → name.now ≢ operation_name op) (λ op. name.now ≡ operation_name op) }
+    ensures { MatchOption result ((op : Operator) → name.now ≢ operation_name op)
+        (λ op. name.now ≡ operation_name op) }
 {
     if name == ADDINT {
         Some(Op::AddInt)
@@ -86,7 +87,9 @@ pub fn symbol_of(op: Op) -> (&'static [u8], u8)
 
 /// Whether the class's symbol is declared with its arity.
 fn has_symbol(op: Op, symbols: &Symbols) -> bool
-    ensures { IsTrue result ↔ ((number : ℕ) × IsDeclared symbols.now (operation_symbol op).name number (operation_symbol op).arity) }
+    ensures { IsTrue result
+        ↔ ((number : ℕ) × IsDeclared symbols.now (operation_symbol op).name number
+        (operation_symbol op).arity) }
 {
     let (name, arity) = symbol_of(op);
     match symbols.find(name) {
@@ -141,8 +144,10 @@ pub fn take_operation(
     operations: &mut Vec<Op>,
 ) -> Result<Op, FileError>
     requires placed { IsPlaced text.now (Operation name) }
-    ensures taking { (variables : List (List ℕ)) → IsTaking text.now (knowing symbols.now variables operations.old.items) (Operation name ∷ []) (knowing symbols.now variables operations.new.items) result }
-    ensures named { IfOk result (λ op. bytes_of text.now name ≡ operation_name op) }
+    ensures taking { (variables : List (List ℕ))
+        → IsTaking text.now (knowing symbols.now variables operations.old.items) (Operation name ∷ [])
+        (knowing symbols.now variables operations.new.items) result }
+    ensures named { IfOk result (λ op. token_bytes text.now name ≡ operation_name op) }
 {
     let Some(op) = operation_named(bytes_of(text, name)) else {
         return Err(refused(FaultKind::UnknownEquationClass, name));

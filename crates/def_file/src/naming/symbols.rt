@@ -32,7 +32,8 @@ fn take_declaration(
 ) -> Result<(), FileError>
     requires placed { IsPlaced text.now (Symbol name arity) }
     requires room { 2 + length symbols.old.declared < 2 ^ 32 }
-    ensures taking { IsTaking text.now (only_symbols symbols.old) (Symbol name arity ∷ []) (only_symbols symbols.new) result }
+    ensures taking { IsTaking text.now (only_symbols symbols.old) (Symbol name arity ∷ [])
+        (only_symbols symbols.new) result }
     ensures few { length symbols.new.declared ≤ length symbols.old.declared + 1 }
 {
     match symbols.declare(bytes_of(text, name), numeral_value(text, &arity)) {
@@ -44,7 +45,8 @@ fn take_declaration(
 /// Includes a class of symbols.
 fn take_class(text: &[u8], name: Token, symbols: &mut Symbols) -> Result<(), FileError>
     requires placed { IsPlaced text.now (Class name) }
-    ensures taking { IsTaking text.now (only_symbols symbols.old) (Class name ∷ []) (only_symbols symbols.new) result }
+    ensures taking { IsTaking text.now (only_symbols symbols.old) (Class name ∷ [])
+        (only_symbols symbols.new) result }
     ensures few { symbols.new.declared ≡ symbols.old.declared }
 {
     match symbols.include(bytes_of(text, name)) {
@@ -56,7 +58,8 @@ fn take_class(text: &[u8], name: Token, symbols: &mut Symbols) -> Result<(), Fil
 /// Includes classes of symbols.
 fn take_classes(text: &[u8], names: &[Token], symbols: &mut Symbols) -> Result<(), FileError>
     requires placed { ArePlaced text.now (map Class names.now) }
-    ensures taking { IsTaking text.now (only_symbols symbols.old) (map Class names.now) (only_symbols symbols.new) result }
+    ensures taking { IsTaking text.now (only_symbols symbols.old) (map Class names.now)
+        (only_symbols symbols.new) result }
     ensures few { symbols.new.declared ≡ symbols.old.declared }
 {
     for name in names {
@@ -69,7 +72,8 @@ fn take_classes(text: &[u8], names: &[Token], symbols: &mut Symbols) -> Result<(
 fn take_item(text: &[u8], item: &SymbolItem, symbols: &mut Symbols) -> Result<(), FileError>
     requires placed { ArePlaced text.now (symbol_places (symbol_item item.now)) }
     requires room { 2 + length symbols.old.declared < 2 ^ 32 }
-    ensures taking { IsTaking text.now (only_symbols symbols.old) (symbol_places (symbol_item item.now)) (only_symbols symbols.new) result }
+    ensures taking { IsTaking text.now (only_symbols symbols.old) (symbol_places (symbol_item item.now))
+        (only_symbols symbols.new) result }
     ensures few { length symbols.new.declared ≤ length symbols.old.declared + 1 }
 {
     match item {
@@ -86,7 +90,8 @@ pub fn take_symbols(
 ) -> Result<(), FileError>
     requires placed { ArePlaced text.now (flat_map symbol_places (map symbol_item items.now)) }
     requires room { 2 + (length symbols.old.declared + length items.now) < 2 ^ 32 }
-    ensures { IsTaking text.now (only_symbols symbols.old) (flat_map symbol_places (map symbol_item items.now)) (only_symbols symbols.new) result }
+    ensures { IsTaking text.now (only_symbols symbols.old)
+        (flat_map symbol_places (map symbol_item items.now)) (only_symbols symbols.new) result }
 {
     for item in items {
         take_item(text, item, symbols)?;

@@ -5,7 +5,7 @@ ghost use Rattle.symbol_table.specs.Table.{Keeps};
 ghost use Rattle.def_file.specs.Names.{Term};
 ghost use Rattle.def_file.specs.Naming.{ArePlaced, IsTaking, knowing};
 ghost use Rattle.def_file.specs.Pairs.{AreRelated};
-ghost use Rattle.def_file.specs.Taking.{Lasts, IsTaken};
+ghost use Rattle.def_file.specs.Taking.{Lasts, IsSideTaken};
 
 use crate::error::FileError;
 use eq_base::Pattern;
@@ -22,8 +22,11 @@ pub fn take_term(
     variables: &Variables,
 ) -> Result<Pattern, FileError>
     requires placed { byte ≤ length text.now }
-    ensures taking { (operations : List Operator) → IsTaking text.now (knowing symbols.old variables.now operations) (Term byte ∷ []) (knowing symbols.new variables.now operations) result }
-    ensures pattern { IfOk result (λ pattern. Lasts (λ known table. IsTaken text.now known table byte pattern) symbols.new variables.now) }
+    ensures taking { (operations : List Operator)
+        → IsTaking text.now (knowing symbols.old variables.now operations) (Term byte ∷ [])
+        (knowing symbols.new variables.now operations) result }
+    ensures pattern { IfOk result (λ pattern. Lasts
+        (λ known table. IsSideTaken text.now known table byte pattern) symbols.new variables.now) }
     ensures keeps { Keeps symbols.old symbols.new }
 {
     let (pattern, _) = read_pattern(alloc, symbols, variables, text, byte)?;
@@ -39,8 +42,12 @@ pub fn take_terms(
     variables: &Variables,
 ) -> Result<Vec<Pattern>, FileError>
     requires placed { ArePlaced text.now (map Term terms.now) }
-    ensures taking { (operations : List Operator) → IsTaking text.now (knowing symbols.old variables.now operations) (map Term terms.now) (knowing symbols.new variables.now operations) result }
-    ensures patterns { IfOk result (λ patterns. Lasts (λ known table. AreRelated (IsTaken text.now known table) terms.now patterns.items) symbols.new variables.now) }
+    ensures taking { (operations : List Operator)
+        → IsTaking text.now (knowing symbols.old variables.now operations) (map Term terms.now)
+        (knowing symbols.new variables.now operations) result }
+    ensures patterns { IfOk result (λ patterns. Lasts
+        (λ known table. AreRelated (IsSideTaken text.now known table) terms.now patterns.items)
+        symbols.new variables.now) }
     ensures keeps { Keeps symbols.old symbols.new }
 {
     let mut patterns = Vec::new(alloc);

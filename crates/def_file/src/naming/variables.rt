@@ -17,7 +17,8 @@ fn take_variable(
 ) -> Result<(), FileError>
     requires placed { IsPlaced text.now (Variable name) }
     requires room { length variables.old < 2 ^ 32 }
-    ensures taking { IsTaking text.now (no_operations symbols.now variables.old) (Variable name ∷ []) (no_operations symbols.now variables.new) result }
+    ensures taking { IsTaking text.now (no_operations symbols.now variables.old) (Variable name ∷ [])
+        (no_operations symbols.now variables.new) result }
     ensures few { length variables.new ≤ length variables.old + 1 }
 {
     match variables.add(symbols, bytes_of(text, name)) {
@@ -35,7 +36,8 @@ pub fn take_variables(
 ) -> Result<(), FileError>
     requires placed { ArePlaced text.now (map Variable names.now) }
     requires room { length variables.old + length names.now < 2 ^ 32 }
-    ensures { IsTaking text.now (no_operations symbols.now variables.old) (map Variable names.now) (no_operations symbols.now variables.new) result }
+    ensures { IsTaking text.now (no_operations symbols.now variables.old) (map Variable names.now)
+        (no_operations symbols.now variables.new) result }
 {
     for name in names {
         take_variable(text, *name, symbols, variables)?;

@@ -4,7 +4,7 @@ ghost use Rattle.term_lex.specs.declared.token.TokenKind.TheVariants.{Comma};
 ghost use Rattle.term_lex.specs.Parts.{IsKind, Led, Separated};
 ghost use Rattle.def_file.specs.Grammar.{IsInClass, IsOneOf, IsRestriction, IsCondition, IsWhere, IsConditions};
 ghost use Rattle.def_file.specs.Views.{restriction, condition};
-ghost use Rattle.def_file.specs.Reading.{IsRead};
+ghost use Rattle.def_file.specs.Reading.{IsReadBy};
 
 use super::terms::read_terms;
 use super::tokens::{next_is, next_is_word, read_token, skip_kind, skip_word};
@@ -16,7 +16,7 @@ use term_lex::{Token, TokenKind};
 /// The word `in` and a class.
 fn read_in(text: &[u8], at: usize) -> Result<(Token, usize), FileError>
     requires { at ≤ length text.now }
-    ensures { IsRead IsInClass (λ name. name) text.now at result }
+    ensures { IsReadBy IsInClass (λ name. name) text.now at result }
 {
     let class_at = skip_word(text, at, b"in")?;
     let (class, end) = read_token(text, class_at, TokenKind::Name)?;
@@ -26,7 +26,7 @@ fn read_in(text: &[u8], at: usize) -> Result<(Token, usize), FileError>
 /// The word `either`, alternatives and the words `end or`.
 fn read_either(alloc: Global, text: &[u8], at: usize) -> Result<(Vec<usize>, usize), FileError>
     requires { at ≤ length text.now }
-    ensures { IsRead IsOneOf (λ terms. terms.items) text.now at result }
+    ensures { IsReadBy IsOneOf (λ terms. terms.items) text.now at result }
 {
     let terms_at = skip_word(text, at, b"either")?;
     let (terms, end_at) = read_terms(alloc, text, terms_at)?;
@@ -42,7 +42,7 @@ fn read_restriction(
     at: usize,
 ) -> Result<(Restriction, usize), FileError>
     requires { at ≤ length text.now }
-    ensures { IsRead IsRestriction restriction text.now at result }
+    ensures { IsReadBy IsRestriction restriction text.now at result }
 {
     if next_is_word(text, at, b"in") {
         let (class, class_end) = read_in(text, at)?;
@@ -55,7 +55,7 @@ fn read_restriction(
 /// A variable and what it may stand for.
 fn read_condition(alloc: Global, text: &[u8], at: usize) -> Result<(Condition, usize), FileError>
     requires { at ≤ length text.now }
-    ensures { IsRead IsCondition condition text.now at result }
+    ensures { IsReadBy IsCondition condition text.now at result }
 {
     let (variable, is_at) = read_token(text, at, TokenKind::Name)?;
     let restriction_at = skip_word(text, is_at, b"is")?;
@@ -74,7 +74,7 @@ fn read_next_condition(
     at: usize,
 ) -> Result<(Condition, usize), FileError>
     requires { at ≤ length text.now }
-    ensures { IsRead (Led (IsKind Comma) IsCondition) condition text.now at result }
+    ensures { IsReadBy (Led (IsKind Comma) IsCondition) condition text.now at result }
 {
     let condition_at = skip_kind(text, at, TokenKind::Comma)?;
     let (condition, end) = read_condition(alloc, text, condition_at)?;
@@ -88,7 +88,8 @@ fn read_conditions(
     at: usize,
 ) -> Result<(Vec<Condition>, usize), FileError>
     requires { at ≤ length text.now }
-    ensures { IsRead (Separated (IsKind Comma) IsCondition) (λ v. map condition v.items) text.now at result }
+    ensures { IsReadBy (Separated (IsKind Comma) IsCondition)
+        (λ v. map condition v.items) text.now at result }
 {
     let mut conditions = Vec::new(alloc);
     let (first, first_end) = read_condition(alloc, text, at)?;
@@ -109,7 +110,7 @@ fn read_qualified(
     at: usize,
 ) -> Result<(Vec<Condition>, usize), FileError>
     requires { at ≤ length text.now }
-    ensures { IsRead IsConditions (λ v. map condition v.items) text.now at result }
+    ensures { IsReadBy IsConditions (λ v. map condition v.items) text.now at result }
 {
     let conditions_at = skip_word(text, at, b"where")?;
     let (conditions, end_at) = read_conditions(alloc, text, conditions_at)?;
@@ -125,7 +126,7 @@ pub fn read_where(
     at: usize,
 ) -> Result<(Vec<Condition>, usize), FileError>
     requires { at ≤ length text.now }
-    ensures { IsRead IsWhere (λ v. map condition v.items) text.now at result }
+    ensures { IsReadBy IsWhere (λ v. map condition v.items) text.now at result }
 {
     if next_is_word(text, at, b"where") {
         let (conditions, end) = read_qualified(alloc, text, at)?;

@@ -4,7 +4,7 @@ ghost use Rattle.term_lex.specs.declared.token.TokenKind.TheVariants.{Semicolon,
 ghost use Rattle.term_lex.specs.Parts.{IsKind, Closed};
 ghost use Rattle.def_file.specs.Grammar.{IsEquation, IsItem};
 ghost use Rattle.def_file.specs.Views.{sides, equation_item};
-ghost use Rattle.def_file.specs.Reading.{IsRead};
+ghost use Rattle.def_file.specs.Reading.{IsReadBy};
 
 use super::conditions::read_where;
 use super::names::read_include;
@@ -18,7 +18,7 @@ use term_lex::TokenKind;
 /// An equation.
 fn read_equation(alloc: Global, text: &[u8], at: usize) -> Result<(Sides, usize), FileError>
     requires { at ≤ length text.now }
-    ensures { IsRead IsEquation sides text.now at result }
+    ensures { IsReadBy IsEquation sides text.now at result }
 {
     let (left, equals_at) = read_term(alloc, text, at)?;
     let right_at = skip_kind(text, equals_at, TokenKind::Equals)?;
@@ -35,7 +35,7 @@ fn read_equation(alloc: Global, text: &[u8], at: usize) -> Result<(Sides, usize)
 /// An equation or an include.
 fn read_item(alloc: Global, text: &[u8], at: usize) -> Result<(EquationItem, usize), FileError>
     requires { at ≤ length text.now }
-    ensures { IsRead IsItem equation_item text.now at result }
+    ensures { IsReadBy IsItem equation_item text.now at result }
 {
     if next_is_word(text, at, b"include") {
         let ((include, names), names_end) = read_include(alloc, text, at)?;
@@ -52,7 +52,8 @@ pub fn read_items(
     at: usize,
 ) -> Result<(Vec<EquationItem>, usize), FileError>
     requires { at ≤ length text.now }
-    ensures { IsRead (Closed (IsKind Semicolon) (IsKind Dot) IsItem) (λ v. map equation_item v.items) text.now at result }
+    ensures { IsReadBy (Closed (IsKind Semicolon) (IsKind Dot) IsItem)
+        (λ v. map equation_item v.items) text.now at result }
 {
     let mut items = Vec::new(alloc);
     let mut at = at;

@@ -3,7 +3,7 @@ ghost use Rattle.std.specs.Prelude.{◌≤◌, length};
 ghost use Rattle.term_lex.specs.declared.token.TokenKind.TheVariants.{Name, Comma};
 ghost use Rattle.term_lex.specs.Parts.{IsKind, Led};
 ghost use Rattle.def_file.specs.Grammar.{IsToken, IsNames, IsIncludeOf};
-ghost use Rattle.def_file.specs.Reading.{IsRead};
+ghost use Rattle.def_file.specs.Reading.{IsReadBy};
 
 use super::tokens::{next_is, read_token, read_word, skip_kind};
 use crate::error::FileError;
@@ -13,7 +13,7 @@ use term_lex::{Token, TokenKind};
 /// A comma and a name.
 fn read_next_name(text: &[u8], at: usize) -> Result<(Token, usize), FileError>
     requires { at ≤ length text.now }
-    ensures { IsRead (Led (IsKind Comma) (IsToken Name)) (λ name. name) text.now at result }
+    ensures { IsReadBy (Led (IsKind Comma) (IsToken Name)) (λ name. name) text.now at result }
 {
     let name_at = skip_kind(text, at, TokenKind::Comma)?;
     let (name, end) = read_token(text, name_at, TokenKind::Name)?;
@@ -23,7 +23,7 @@ fn read_next_name(text: &[u8], at: usize) -> Result<(Token, usize), FileError>
 /// Names with commas between them.
 pub fn read_names(alloc: Global, text: &[u8], at: usize) -> Result<(Vec<Token>, usize), FileError>
     requires { at ≤ length text.now }
-    ensures { IsRead IsNames (λ names. names.items) text.now at result }
+    ensures { IsReadBy IsNames (λ names. names.items) text.now at result }
 {
     let mut names = Vec::new(alloc);
     let (first, first_end) = read_token(text, at, TokenKind::Name)?;
@@ -44,7 +44,7 @@ pub fn read_include(
     at: usize,
 ) -> Result<((Token, Vec<Token>), usize), FileError>
     requires { at ≤ length text.now }
-    ensures { IsRead IsIncludeOf (λ include. (include.0, include.1.items)) text.now at result }
+    ensures { IsReadBy IsIncludeOf (λ include. (include.0, include.1.items)) text.now at result }
 {
     let (include, names_at) = read_word(text, at, b"include")?;
     let (names, end) = read_names(alloc, text, names_at)?;

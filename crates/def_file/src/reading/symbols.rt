@@ -2,9 +2,9 @@
 ghost use Rattle.std.specs.Prelude.{◌≤◌, length, map};
 ghost use Rattle.term_lex.specs.declared.token.TokenKind.TheVariants.{Semicolon, Dot};
 ghost use Rattle.term_lex.specs.Parts.{IsKind, Closed};
-ghost use Rattle.def_file.specs.Grammar.{IsDeclared, IsSymbolItem};
+ghost use Rattle.def_file.specs.Grammar.{IsDeclaration, IsSymbolItem};
 ghost use Rattle.def_file.specs.Views.{symbol_item};
-ghost use Rattle.def_file.specs.Reading.{IsRead};
+ghost use Rattle.def_file.specs.Reading.{IsReadBy};
 
 use super::names::read_include;
 use super::tokens::{next_is, next_is_word, read_token, skip_kind};
@@ -16,7 +16,7 @@ use term_lex::{Token, TokenKind};
 /// A name, a colon and a numeral.
 fn read_declaration(text: &[u8], at: usize) -> Result<((Token, Token), usize), FileError>
     requires { at ≤ length text.now }
-    ensures { IsRead IsDeclared (λ x. x) text.now at result }
+    ensures { IsReadBy IsDeclaration (λ x. x) text.now at result }
 {
     let (name, colon_at) = read_token(text, at, TokenKind::Name)?;
     let arity_at = skip_kind(text, colon_at, TokenKind::Colon)?;
@@ -27,7 +27,7 @@ fn read_declaration(text: &[u8], at: usize) -> Result<((Token, Token), usize), F
 /// A declaration or an include.
 fn read_symbol_item(alloc: Global, text: &[u8], at: usize) -> Result<(SymbolItem, usize), FileError>
     requires { at ≤ length text.now }
-    ensures { IsRead IsSymbolItem symbol_item text.now at result }
+    ensures { IsReadBy IsSymbolItem symbol_item text.now at result }
 {
     if next_is_word(text, at, b"include") {
         let ((include, names), names_end) = read_include(alloc, text, at)?;
@@ -44,7 +44,8 @@ pub fn read_symbol_items(
     at: usize,
 ) -> Result<(Vec<SymbolItem>, usize), FileError>
     requires { at ≤ length text.now }
-    ensures { IsRead (Closed (IsKind Semicolon) (IsKind Dot) IsSymbolItem) (λ v. map symbol_item v.items) text.now at result }
+    ensures { IsReadBy (Closed (IsKind Semicolon) (IsKind Dot) IsSymbolItem)
+        (λ v. map symbol_item v.items) text.now at result }
 {
     let mut items = Vec::new(alloc);
     let mut at = at;

@@ -2,7 +2,7 @@
 ghost use Rattle.std.specs.Prelude.{◌≤◌, length, codes};
 ghost use Rattle.term_lex.specs.Parts.{IsWord, Led};
 ghost use Rattle.def_file.specs.Grammar.{IsTermFrom, IsTerms};
-ghost use Rattle.def_file.specs.Reading.{IsRead};
+ghost use Rattle.def_file.specs.Reading.{IsReadBy};
 
 use super::tokens::{next_is_word, skip_word};
 use crate::error::FileError;
@@ -13,7 +13,7 @@ use term_lex::next_token;
 /// The first byte of a term, and the place after it.
 pub fn read_term(alloc: Global, text: &[u8], at: usize) -> Result<(usize, usize), FileError>
     requires { at ≤ length text.now }
-    ensures { IsRead IsTermFrom (λ byte. byte) text.now at result }
+    ensures { IsReadBy IsTermFrom (λ byte. byte) text.now at result }
 {
     let first = next_token(text, at)?;
     let end = skip_term(alloc, text, at)?;
@@ -23,7 +23,7 @@ pub fn read_term(alloc: Global, text: &[u8], at: usize) -> Result<(usize, usize)
 /// The word `or` and a term.
 fn read_next_term(alloc: Global, text: &[u8], at: usize) -> Result<(usize, usize), FileError>
     requires { at ≤ length text.now }
-    ensures { IsRead (Led (IsWord (codes "or")) IsTermFrom) (λ byte. byte) text.now at result }
+    ensures { IsReadBy (Led (IsWord (codes "or")) IsTermFrom) (λ byte. byte) text.now at result }
 {
     let term_at = skip_word(text, at, b"or")?;
     let (term, end) = read_term(alloc, text, term_at)?;
@@ -33,7 +33,7 @@ fn read_next_term(alloc: Global, text: &[u8], at: usize) -> Result<(usize, usize
 /// Terms with the word `or` between them.
 pub fn read_terms(alloc: Global, text: &[u8], at: usize) -> Result<(Vec<usize>, usize), FileError>
     requires { at ≤ length text.now }
-    ensures { IsRead IsTerms (λ terms. terms.items) text.now at result }
+    ensures { IsReadBy IsTerms (λ terms. terms.items) text.now at result }
 {
     let mut terms = Vec::new(alloc);
     let (first, first_end) = read_term(alloc, text, at)?;

@@ -3,7 +3,7 @@ ghost use Rattle.std.specs.Prelude.{◌≡◌, ◌≤◌, length, true, false};
 ghost use Rattle.term_lex.specs.Lexemes.{lexeme};
 ghost use Rattle.term_lex.specs.Parts.{IsKind, IsWord, One, NextIs};
 ghost use Rattle.def_file.specs.Grammar.{IsToken, IsWordAs};
-ghost use Rattle.def_file.specs.Reading.{IsSkip, IsRead};
+ghost use Rattle.def_file.specs.Reading.{IsSkip, IsReadBy};
 
 use crate::error::FileError;
 use term_lex::{Token, TokenKind, misplaced, next_token};
@@ -53,7 +53,7 @@ pub fn next_is_word(text: &[u8], at: usize, word: &[u8]) -> bool
 /// The next token, which is of the kind, and the place after it.
 pub fn read_token(text: &[u8], at: usize, kind: TokenKind) -> Result<(Token, usize), FileError>
     requires { at ≤ length text.now }
-    ensures { IsRead (IsToken kind) (λ token. token) text.now at result }
+    ensures { IsReadBy (IsToken kind) (λ token. token) text.now at result }
 {
     let token = next_token(text, at)?;
     if !is_kind(token, kind) {
@@ -65,7 +65,7 @@ pub fn read_token(text: &[u8], at: usize, kind: TokenKind) -> Result<(Token, usi
 /// The next token, which is the word, and the place after it.
 pub fn read_word(text: &[u8], at: usize, word: &[u8]) -> Result<(Token, usize), FileError>
     requires { at ≤ length text.now }
-    ensures { IsRead (IsWordAs word.now) (λ token. token) text.now at result }
+    ensures { IsReadBy (IsWordAs word.now) (λ token. token) text.now at result }
 {
     let token = next_token(text, at)?;
     if !is_word(text, token, word) {

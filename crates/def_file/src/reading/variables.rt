@@ -1,7 +1,7 @@
 // The list of variables.
 ghost use Rattle.std.specs.Prelude.{◌≤◌, length};
-ghost use Rattle.def_file.specs.Grammar.{IsNamed, IsVariables};
-ghost use Rattle.def_file.specs.Reading.{IsRead};
+ghost use Rattle.def_file.specs.Grammar.{IsNameList, IsVariables};
+ghost use Rattle.def_file.specs.Reading.{IsReadBy};
 
 use super::names::read_names;
 use super::tokens::{next_is, skip_kind};
@@ -12,7 +12,7 @@ use term_lex::{Token, TokenKind};
 /// Names and a colon.
 fn read_named(alloc: Global, text: &[u8], at: usize) -> Result<(Vec<Token>, usize), FileError>
     requires { at ≤ length text.now }
-    ensures { IsRead IsNamed (λ names. names.items) text.now at result }
+    ensures { IsReadBy IsNameList (λ names. names.items) text.now at result }
 {
     let (names, colon_at) = read_names(alloc, text, at)?;
     let end = skip_kind(text, colon_at, TokenKind::Colon)?;
@@ -26,7 +26,7 @@ pub fn read_variables(
     at: usize,
 ) -> Result<(Vec<Token>, usize), FileError>
     requires { at ≤ length text.now }
-    ensures { IsRead IsVariables (λ names. names.items) text.now at result }
+    ensures { IsReadBy IsVariables (λ names. names.items) text.now at result }
 {
     if next_is(text, at, TokenKind::Colon) {
         let end = skip_kind(text, at, TokenKind::Colon)?;

@@ -22,7 +22,8 @@ fn some_names(alloc: Global) -> Result<Symbols, SymbolError>
 
 /// The term that is f over the numeral -7, g over the atom and the numeral 0, and the text.
 fn some_term(alloc: Global) -> Result<Flat, NoMemory>
-    ensures { IfOk result (λ t. cells t ≡ (Head.Symbol 2, 3) ∷ (Head.Numeral (neg_ℤ (pos 7)), 0) ∷ (Head.Symbol 3, 2) ∷ (Head.Atom 0, 0) ∷ (Head.Numeral (pos 0), 0) ∷ (Head.Text 0, 0) ∷ []) }
+    ensures { IfOk result (λ t. cells t ≡ (Head.Symbol 2, 3) ∷ (Head.Numeral (neg_ℤ (pos 7)), 0)
+        ∷ (Head.Symbol 3, 2) ∷ (Head.Atom 0, 0) ∷ (Head.Numeral (pos 0), 0) ∷ (Head.Text 0, 0) ∷ []) }
 {
     let mut maker = FlatMaker::new(alloc);
     maker.push_cell(Head::Symbol(2), 3)?;

@@ -2,7 +2,7 @@ use Rattle.std.proofs.Common.{◌≡◌, ℕ, ◌+◌, ◌-◌, ◌<◌, ◌≤�
 use Rattle.eq_base.specs.Tree.{nth_subtree}
 use Rattle.eq_base.specs.Rules.{system_of}
 use Rattle.orthogonal_laws.specs.Operations.{Values, AreValuesBy}
-use Rattle.orthogonal_laws.specs.Orthogonal.{IsWellFormed, IsOrthogonal}
+use Rattle.orthogonal_laws.specs.Orthogonal.{IsWellFormedSystem, IsOrthogonal}
 use Rattle.orthogonal_laws.proofs.RegularLists.{regular_well_formed, regular_orthogonal}
 use Rattle.orthogonal_laws.proofs.ReadSystems.{number_values, number_values_by}
 use Rattle.orthogonal_laws.proofs.FirstDemands.{next_of_fit, none_normal}
@@ -24,7 +24,7 @@ returns c =
 
 pub argument_toward-way-requires-clause-within : goal.argument_toward-way-requires-clause-within
 argument_toward-way-requires-clause-within c =
-    let rests : (values : Values) → AreValuesBy c.args.symbols.now values → (w : IsWellFormed (system_of values c.args.rules.now)) (o : IsOrthogonal (system_of values c.args.rules.now)) → IsResting values c.args.rules.now w o (nth_subtree c.args.term.now c.loop-at.at) (c.if-at-way.from - c.loop-at.at) =
+    let rests : (values : Values) → AreValuesBy c.args.symbols.now values → (w : IsWellFormedSystem (system_of values c.args.rules.now)) (o : IsOrthogonal (system_of values c.args.rules.now)) → IsResting values c.args.rules.now w o (nth_subtree c.args.term.now c.loop-at.at) (c.if-at-way.from - c.loop-at.at) =
     λ values by w o. elim c.if-at-way.branch [
       | then-at-way+in_default b ↦ rests_alone values c.args.rules.now w o c.args.term.now c.loop-at.at c.if-at-way.from b.from-is (b.in_default.ensures values by)
       | else-at-way b ↦
@@ -41,7 +41,7 @@ argument_toward-way-requires-clause-within c =
 
 pub loop-at-preserved : goal.loop-at-preserved
 loop-at-preserved c =
-    let rests : (values : Values) → AreValuesBy c.args.symbols.now values → (w : IsWellFormed (system_of values c.args.rules.now)) (o : IsOrthogonal (system_of values c.args.rules.now)) → IsResting values c.args.rules.now w o (nth_subtree c.args.term.now c.loop-at.at) (c.if-at-way.from - c.loop-at.at) =
+    let rests : (values : Values) → AreValuesBy c.args.symbols.now values → (w : IsWellFormedSystem (system_of values c.args.rules.now)) (o : IsOrthogonal (system_of values c.args.rules.now)) → IsResting values c.args.rules.now w o (nth_subtree c.args.term.now c.loop-at.at) (c.if-at-way.from - c.loop-at.at) =
     λ values by w o. elim c.if-at-way.branch [
       | then-at-way+in_default b ↦ rests_alone values c.args.rules.now w o c.args.term.now c.loop-at.at c.if-at-way.from b.from-is (b.in_default.ensures values by)
       | else-at-way b ↦

@@ -3,14 +3,14 @@ use Rattle.std.proofs.lemmas.List.{get_or-map, length-map}
 use Rattle.std.specs.List.{AllByRecursion}
 use Rattle.term_lex.specs.Values.{IsTokenOf}
 use Rattle.def_file.specs.declared.tree.Condition.{Condition}
-use Rattle.def_file.specs.Names.{bytes_of}
+use Rattle.def_file.specs.Names.{token_bytes}
 use Rattle.def_file.specs.Naming.{qualified_names}
 use Rattle.def_file.proofs.naming.conditions.is_qualified.Goals as goal
 
-name_at : (text : List ℕ) (cs : List Condition) (i : ℕ) (c : Condition) (d : List ℕ) → c ≡ get_or cs i c → i < length cs → get_or (map (bytes_of text) (qualified_names cs)) i d ≡ bytes_of text c.variable
+name_at : (text : List ℕ) (cs : List Condition) (i : ℕ) (c : Condition) (d : List ℕ) → c ≡ get_or cs i c → i < length cs → get_or (map (token_bytes text) (qualified_names cs)) i d ≡ token_bytes text c.variable
 name_at text cs i c d is h =
     let within : i < length (qualified_names cs) = rw length-map h in
-    get_or-map (bytes_of text) (qualified_names cs) i c.variable d within ∙ ap (bytes_of text) (get_or-map (λ (x : Condition). x.variable) cs i c c.variable h ∙ ap (λ (x : Condition). x.variable) (sym is))
+    get_or-map (token_bytes text) (qualified_names cs) i c.variable d within ∙ ap (token_bytes text) (get_or-map (λ (x : Condition). x.variable) cs i c c.variable h ∙ ap (λ (x : Condition). x.variable) (sym is))
 
 token_at : (text : List ℕ) (cs : List Condition) (i : ℕ) (c : Condition) → AllByRecursion (IsTokenOf text) (qualified_names cs) → c ≡ get_or cs i c → i < length cs → IsTokenOf text c.variable
 token_at text [] i c placed is h = absurd (omega arith)
@@ -23,8 +23,8 @@ bytes_of-requires c = token_at c.args.text.now c.args.conditions.now c.loop-cond
 pub returns-then-is_same : goal.returns-then-is_same
 returns-then-is_same c =
     let i = c.loop-condition.condition-index in
-    let within : i < length (map (bytes_of c.args.text.now) (qualified_names c.args.conditions.now)) = simp length-map c.loop-condition-test.true in
-    let same : bytes_of c.args.text.now c.condition-item.result.variable ≡ bytes_of c.args.text.now c.args.name = sym c.bytes_of.ensures ∙ c.is_same.ensures.0 c.if-is_same.true ∙ c.bytes_of-in-loop-condition.ensures in
+    let within : i < length (map (token_bytes c.args.text.now) (qualified_names c.args.conditions.now)) = simp length-map c.loop-condition-test.true in
+    let same : token_bytes c.args.text.now c.condition-item.result.variable ≡ token_bytes c.args.text.now c.args.name = sym c.bytes_of.ensures ∙ c.is_same.ensures.0 c.if-is_same.true ∙ c.bytes_of-in-loop-condition.ensures in
     (λ yes. (i, within, name_at c.args.text.now c.args.conditions.now i c.condition-item.result _ c.condition-item.is c.loop-condition-test.true ∙ same), λ has. refl)
 
 pub loop-condition-preserved : goal.loop-condition-preserved

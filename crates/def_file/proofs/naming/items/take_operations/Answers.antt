@@ -2,7 +2,7 @@ use Rattle.std.proofs.Common.{◌≡◌, ◌∷◌, [], Err, rules, map, drop, a
 use Rattle.std.proofs.lemmas.List.{drop_all}
 use Rattle.eq_base.specs.declared.rules.Op.{Op}
 use Rattle.term_lex.specs.declared.token.Token.{Token}
-use Rattle.def_file.specs.Names.{Operation, bytes_of}
+use Rattle.def_file.specs.Names.{Operation, token_bytes}
 use Rattle.def_file.specs.Operations.{operation_name}
 use Rattle.def_file.specs.Pairs.{AreRelated}
 use Rattle.def_file.proofs.Pairs.{one_more, related_all}
@@ -12,7 +12,7 @@ use Rattle.def_file.proofs.naming.items.take_operations.Goals as goal
 
 -- the equation class of a name, and the first byte of the name
 abbrev Named : List ℕ → Token → Op × ℕ → Type 0
-Named text name o = (bytes_of text name ≡ operation_name o.0) × (o.1 ≡ name.from)
+Named text name o = (token_bytes text name ≡ operation_name o.0) × (o.1 ≡ name.from)
 
 pub loop-name-init : goal.loop-name-init
 loop-name-init c = record { under_way = λ variables. none_taken c.args.text.now _ _; operations = subst (AreRelated (Named c.args.text.now) []) (sym c.new-taken.ensures.items) tt; placed = c.requires.placed }

@@ -13,13 +13,13 @@ use Rattle.def_file.specs.declared.naming.conditions.TakenCondition.{TakenCondit
 use Rattle.def_file.specs.Views.{condition}
 use Rattle.def_file.specs.Trees.{Condition}
 use Rattle.def_file.specs.Pairs.{AreRelated}
-use Rattle.def_file.specs.Sides.{Equations, Application, Cells, IsApplication, alternatives_of, AnswersLimits}
-use Rattle.def_file.specs.Taking.{HasSymbolRoot, TakesCondition}
+use Rattle.def_file.specs.Sides.{Equations, Application, Cells, IsSymbolApplied, alternatives_of, AnswersLimits}
+use Rattle.def_file.specs.Taking.{HasDeclaredRoot, TakesCondition}
 use Rattle.def_file.proofs.Limits.{answers_behind}
 use Rattle.def_file.proofs.naming.limits.equation_fault.Goals as goal
 
 -- a symbol stands at the root exactly where one does as the pattern is read
-root_read : (table : Table) (p : Tree (PatternCell Head)) → HasSymbolRoot p ↔ IsApplication (read_pattern table p)
+root_read : (table : Table) (p : Tree (PatternCell Head)) → HasDeclaredRoot p ↔ IsSymbolApplied (read_pattern table p)
 root_read table (node (fixed (Symbol n)) ps) = (λ h. h, λ h. h)
 root_read table (node (fixed (Numeral n)) ps) = (λ h. h, λ h. h)
 root_read table (node (fixed (Atom n)) ps) = (λ h. h, λ h. h)
@@ -30,11 +30,11 @@ root_read table (node (restricted x class) ps) = (λ h. h, λ h. h)
 size_read : (table : Table) (p : Tree (PatternCell Head)) → size (read_pattern table p) ≡ size p
 size_read table p = size-map_heads (map_cell (read_head table)) p
 
-module _ (root : Bool) (table : Table) (p : Tree (PatternCell Head)) (exact : IsTrue root ↔ HasSymbolRoot p) where
-  is_application : root ≡ true → IsApplication (read_pattern table p)
+module _ (root : Bool) (table : Table) (p : Tree (PatternCell Head)) (exact : IsTrue root ↔ HasDeclaredRoot p) where
+  is_application : root ≡ true → IsSymbolApplied (read_pattern table p)
   is_application found = (root_read table p).0 (exact.0 found)
 
-  is_none : root ≡ false → ¬ IsApplication (read_pattern table p)
+  is_none : root ≡ false → ¬ IsSymbolApplied (read_pattern table p)
   is_none missing app = true≢false (sym (exact.1 ((root_read table p).1 app)) ∙ missing)
 
 pub returns-then-not-is_application : goal.returns-then-not-is_application

@@ -4,13 +4,13 @@ use Rattle.symbol_table.proofs.Keeping.{keeps_refl, keeps_trans}
 use Rattle.def_file.specs.Names.{Term}
 use Rattle.def_file.specs.Naming.{ArePlaced, knowing}
 use Rattle.def_file.specs.Pairs.{AreRelated}
-use Rattle.def_file.specs.Taking.{IsTaken}
+use Rattle.def_file.specs.Taking.{IsSideTaken}
 use Rattle.def_file.proofs.Pairs.{one_more, related_all}
 use Rattle.def_file.proofs.Namings.{drop-next, none_taken, more_taken, one_refused, all_taken, taking_refused}
 use Rattle.def_file.proofs.naming.terms.take_terms.Goals as goal
 
 pub loop-byte-init : goal.loop-byte-init
-loop-byte-init c = record { under_way = λ operations. none_taken c.args.text.now _ _; placed = c.requires.placed; keeps = keeps_refl _; patterns = λ later operations k. subst (AreRelated (IsTaken c.args.text.now (knowing later c.args.variables.now operations) later) []) (sym c.new-patterns.ensures.items) tt }
+loop-byte-init c = record { under_way = λ operations. none_taken c.args.text.now _ _; placed = c.requires.placed; keeps = keeps_refl _; patterns = λ later operations k. subst (AreRelated (IsSideTaken c.args.text.now (knowing later c.args.variables.now operations) later) []) (sym c.new-patterns.ensures.items) tt }
 
 pub take_term-requires : goal.take_term-requires
 take_term-requires c =
@@ -36,11 +36,11 @@ loop-byte-preserved c =
       under_way = λ operations. more_taken c.args.text.now _ (knowing c.loop-byte.symbols c.args.variables.now operations) _ _ (Term (get_or c.args.terms.now c.loop-byte.byte-index 0) ∷ []) _ next (c.loop-byte.invariant.under_way operations) _ (c.in_ok-pattern.ensures.taking operations);
       placed = (subst (ArePlaced c.args.text.now) next c.loop-byte.invariant.placed).1;
       keeps = keeps_trans _ _ _ c.loop-byte.invariant.keeps c.take_term.ensures.keeps;
-      patterns = λ later operations k. one_more (IsTaken c.args.text.now (knowing later c.args.variables.now operations) later) c.args.terms.now c.loop-byte.byte-index (get_or c.args.terms.now c.loop-byte.byte-index 0) 0 refl c.loop-byte-test.true c.loop-byte.patterns.items c.push.new.self.items c.in_ok-pattern.pattern c.in_ok-push.ensures.items (c.loop-byte.invariant.patterns later operations (keeps_trans _ _ _ c.take_term.ensures.keeps k)) (c.in_ok-pattern.ensures.pattern later operations k);
+      patterns = λ later operations k. one_more (IsSideTaken c.args.text.now (knowing later c.args.variables.now operations) later) c.args.terms.now c.loop-byte.byte-index (get_or c.args.terms.now c.loop-byte.byte-index 0) 0 refl c.loop-byte-test.true c.loop-byte.patterns.items c.push.new.self.items c.in_ok-pattern.pattern c.in_ok-push.ensures.items (c.loop-byte.invariant.patterns later operations (keeps_trans _ _ _ c.take_term.ensures.keeps k)) (c.in_ok-pattern.ensures.pattern later operations k);
     }
 
 pub returns-clause-taking : goal.returns-clause-taking
 returns-clause-taking c = λ operations. all_taken c.args.text.now _ _ _ _ (ap (map Term) (drop_all c.loop-byte.byte-index c.args.terms.now c.loop-byte-test.false)) (c.loop-byte.invariant.under_way operations)
 
 pub returns-clause-patterns : goal.returns-clause-patterns
-returns-clause-patterns c = λ later operations k. related_all (IsTaken c.args.text.now (knowing later c.args.variables.now operations) later) c.args.terms.now c.loop-byte.byte-index c.loop-byte-test.false c.loop-byte.patterns.items (c.loop-byte.invariant.patterns later operations k)
+returns-clause-patterns c = λ later operations k. related_all (IsSideTaken c.args.text.now (knowing later c.args.variables.now operations) later) c.args.terms.now c.loop-byte.byte-index c.loop-byte-test.false c.loop-byte.patterns.items (c.loop-byte.invariant.patterns later operations k)

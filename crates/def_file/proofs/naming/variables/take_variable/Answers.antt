@@ -6,12 +6,12 @@ use Rattle.symbol_table.specs.declared.error.SymbolError.{SymbolError}
 use Rattle.symbol_table.specs.declared.error.SymbolError.TheVariants.{Refused, NoMemory}
 use Rattle.term_lex.specs.declared.token.Token.{Token}
 use Rattle.def_file.specs.Errors.{IfRefused, refused_at}
-use Rattle.def_file.specs.Names.{Variable, bytes_of, RefusesFirst}
+use Rattle.def_file.specs.Names.{Variable, token_bytes, RefusesFirst}
 use Rattle.def_file.specs.Naming.{no_operations}
 use Rattle.def_file.proofs.naming.variables.take_variable.Goals as goal
 
 refused_variable : (text : List ℕ) (table : Table) (variables : List (List ℕ)) (name : Token) (error : SymbolError)
-    → symbols.IfRefused (RefusesVariable table variables (bytes_of text name)) error
+    → symbols.IfRefused (RefusesVariable table variables (token_bytes text name)) error
     → IfRefused (RefusesFirst text (no_operations table variables) (Variable name ∷ [])) (refused_at error name.from)
 refused_variable text table variables name (Refused kind) h = inl (h, refl)
 refused_variable text table variables name NoMemory h = tt
