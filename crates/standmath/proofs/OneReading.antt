@@ -1,11 +1,13 @@
 -- A text has one reading as a term or a pattern, or one first fault.
-use Rattle.std.proofs.Common.{◌≡◌, ℕ, [], ◌∷◌, List, Result, refl, sym, ap, ◌∙◌}
+use Rattle.std.proofs.Common.{◌≡◌, ℕ, [], ◌∷◌, List, Result, sym, ap, ◌∙◌}
 use Rattle.eq_base.specs.Tree.{Tree, cells}
 use Rattle.eq_base.specs.Pattern.{PatternCell}
 use Rattle.eq_base.specs.ReadHead.{ReadHead}
-use Rattle.term_lex.specs.declared.token.TokenKind.TheVariants.{OpenRound}
+use Rattle.term_lex.specs.declared.token.TokenKind.TheVariants.{OpenRound, OpenSquare}
 use Rattle.term_lex.specs.declared.fault.Fault.{Fault}
-use Rattle.term_lex.proofs.Marks.{Kind}
+use Rattle.term_lex.proofs.Marks.{Kind, has_left}
+use Rattle.term_lex.proofs.Parts.{wider}
+use Rattle.term_lex.proofs.Telling.{plain}
 use Rattle.symbol_table.specs.Table.{Table, HasDistinctNames, AreDistinct}
 use Rattle.written_terms.proofs.Notations.{IsLawful}
 use Rattle.written_terms.proofs.OneReading as written
@@ -19,12 +21,12 @@ use Rattle.standmath.proofs.Outlines.{met_all, nothing, met_term}
 pub same_cells : (w v : Written) → spelling w ≡ spelling v → cells (outline w) ≡ cells (outline v)
 same_cells w v e = sym (met_term w) ∙ ap (λ xs. (met_all xs nothing).heads) e ∙ met_term v
 
-pub lawful : IsLawful standmath term_marks (Kind OpenRound ∷ [])
+pub lawful : IsLawful standmath
 lawful = record {
   one_outline = λ w v lexemes e f. same_cells w v (e ∙ sym f);
   one_fault = λ IsSentence before x f g e e'. e ∙ sym e';
-  part = term_part;
-  no_dot = refl;
+  part = wider (λ x m. has_left term_marks (Kind OpenRound ∷ []) x m) (λ x m. has_left (Kind OpenRound ∷ []) (Kind OpenSquare ∷ []) x m) term_part;
+  telling = plain;
 }
 
 -- a term and its dot are read in one way

@@ -10,10 +10,9 @@ use Rattle.term_lex.proofs.Sequences.{then_reads, then_first_fault, then_second_
 use Rattle.term_lex.proofs.Marks.{Mark, disjoint}
 use Rattle.term_lex.proofs.Parts.{IsPart, apart}
 
--- Misplaced lexemes are told by M.
-module _ (M : List Lexeme → Lexeme → Fault → Type 0) (text : List ℕ) (at : ℕ) where
-  -- Grammars with the same sentences have the same answers.
-  pub same_by : {G H : List Lexeme → Type 0} → ((xs : List Lexeme) → G xs → H xs) → ((xs : List Lexeme) → H xs → G xs) → (r : Result ℕ Fault) → IsAnswerBy M G text at r → IsAnswerBy M H text at r
+-- Grammars with the same sentences have the same answers. M tells the misplaced lexemes of the one, N those of the other.
+module _ (M N : List Lexeme → Lexeme → Fault → Type 0) (kinds : (xs : List Lexeme) (x : Lexeme) (f : Fault) → M xs x f → N xs x f) (text : List ℕ) (at : ℕ) where
+  pub same_by : {G H : List Lexeme → Type 0} → ((xs : List Lexeme) → G xs → H xs) → ((xs : List Lexeme) → H xs → G xs) → (r : Result ℕ Fault) → IsAnswerBy M G text at r → IsAnswerBy N H text at r
   same_by to from (Ok end) (xs, r) = (xs, record { scanned = r.scanned; sentence = to xs r.sentence; longest = λ next found v. r.longest next found (v.0, from _ v.1) })
   same_by to from (Err f) r = record {
     lexemes = r.lexemes;
@@ -23,10 +22,12 @@ module _ (M : List Lexeme → Lexeme → Fault → Type 0) (text : List ℕ) (at
     unfinished = λ h. r.unfinished (from r.lexemes h);
     here = elim r.here [
       | inl bad ↦ inl bad
-      | inr (x, found, refused, is) ↦ inr (x, found, (λ v. refused (v.0, from _ v.1)), is)
+      | inr (x, found, refused, is) ↦ inr (x, found, (λ v. refused (v.0, from _ v.1)), kinds r.lexemes x f is)
     ];
   }
 
+-- Misplaced lexemes are told by M.
+module _ (M : List Lexeme → Lexeme → Fault → Type 0) (text : List ℕ) (at : ℕ) where
   pub nothing_by : IsAnswerBy M Nothing text at (Ok at)
   nothing_by = ([], record { scanned = refl; sentence = refl; longest = λ next found v. let none : next ∷ v.0 ≡ [] = v.1 in cc })
 
@@ -58,6 +59,7 @@ module _ (M : List Lexeme → Lexeme → Fault → Type 0) (text : List ℕ) (at
       here = inr (lexeme text t, lexeme_found text at t found, (λ (more, (u, e, k)). let same : u ≡ lexeme text t = cc in other (subst Test same k)), is);
     }
 
+module _ (M N : List Lexeme → Lexeme → Fault → Type 0) (text : List ℕ) (at : ℕ) where
   -- the first lexeme that stands here
   first_of_scanned : (xs : List Lexeme) (end : ℕ) → Scans text at xs end → (y : Lexeme) → FirstLexeme text end (Ok y) → (Test : Lexeme → Type 0) → (rest : List Lexeme) → BeginsWith Test ((xs ++ y ∷ []) ++ rest) → NextIs Test text at
   first_of_scanned [] end e y found Test rest b = (y, subst (λ n. FirstLexeme text n (Ok y)) e found, b)
@@ -67,7 +69,7 @@ module _ (M : List Lexeme → Lexeme → Fault → Type 0) (text : List ℕ) (at
   first_scanned [] end e Test b = absurd b
   first_scanned (x ∷ xs) end (first, s) Test b = (x, first, b)
 
-  -- The next lexeme decides between two grammars.
+  -- M tells the misplaced lexemes of the whole, N those of the grammar that is chosen.
   module _ (Test : Lexeme → Type 0) (H K : List Lexeme → Type 0) (begun : (xs : List Lexeme) → H xs → BeginsWith Test xs) where
     -- where the next lexeme passes, a list of lexemes from here begins so
     begins_so : NextIs Test text at → (xs : List Lexeme) (end : ℕ) → Scans text at xs end → (rest : List Lexeme) → (xs ≡ [] → ⊥) → BeginsWith Test (xs ++ rest)
@@ -77,8 +79,8 @@ module _ (M : List Lexeme → Lexeme → Fault → Type 0) (text : List ℕ) (at
     not_empty : (xs : List Lexeme) → H xs → xs ≡ [] → ⊥
     not_empty xs h e = begun [] (subst H e h)
 
-    pub first_by : ((x : Lexeme) → Test x → IsViable H (x ∷ [])) → NextIs Test text at → (r : Result ℕ Fault) → IsAnswerBy M H text at r → IsAnswerBy M (Either Test H K) text at r
-    first_by can next (Ok end) (xs, r) = (
+    pub first_by : ((xs : List Lexeme) (x : Lexeme) (f : Fault) → BeginsWith Test xs → N xs x f → M xs x f) → ((x : Lexeme) → Test x → IsViable H (x ∷ [])) → NextIs Test text at → (r : Result ℕ Fault) → IsAnswerBy N H text at r → IsAnswerBy M (Either Test H K) text at r
+    first_by kinds can next (Ok end) (xs, r) = (
       xs,
       record {
         scanned = r.scanned;
@@ -92,15 +94,15 @@ module _ (M : List Lexeme → Lexeme → Fault → Type 0) (text : List ℕ) (at
       goes : (xs : List Lexeme) (y : Lexeme) (rest : List Lexeme) → BeginsWith Test xs → BeginsWith Test ((xs ++ y ∷ []) ++ rest)
       goes [] y rest b = absurd b
       goes (x ∷ xs) y rest b = b
-    first_by can next (Err f) r = record {
+    first_by kinds can next (Err f) r = record {
       lexemes = r.lexemes;
       end = r.end;
       scanned = r.scanned;
       viable = (r.viable.0, inl r.viable.1);
-      unfinished = λ s. elim s [ inl h ↦ r.unfinished h | inr k ↦ k.0 (subst (BeginsWith Test) (append-nil r.lexemes) (begins_so next r.lexemes r.end r.scanned [] some)) ];
+      unfinished = λ s. elim s [ inl h ↦ r.unfinished h | inr k ↦ k.0 begun_here ];
       here = elim r.here [
         | inl bad ↦ inl bad
-        | inr (x, found, refused, is) ↦ inr (x, found, (λ v. elim v.1 [ inl h ↦ refused (v.0, h) | inr k ↦ k.0 (subst (BeginsWith Test) (sym (append_assoc r.lexemes (x ∷ []) v.0)) (begins_so next r.lexemes r.end r.scanned (x ∷ v.0) some)) ]), is)
+        | inr (x, found, refused, is) ↦ inr (x, found, (λ v. elim v.1 [ inl h ↦ refused (v.0, h) | inr k ↦ k.0 (subst (BeginsWith Test) (sym (append_assoc r.lexemes (x ∷ []) v.0)) (begins_so next r.lexemes r.end r.scanned (x ∷ v.0) some)) ]), kinds r.lexemes x f begun_here is)
       ];
     } where
       here_now : r.lexemes ≡ [] → r.end ≡ at
@@ -115,8 +117,11 @@ module _ (M : List Lexeme → Lexeme → Fault → Type 0) (text : List ℕ) (at
             refused (subst (λ xs. IsViable H (xs ++ x ∷ [])) (sym e) (can x (subst Test same next.2)))
       ]
 
-    pub second_by : (us : List Lexeme) → K us → (BeginsWith Test us → ⊥) → (NextIs Test text at → ⊥) → (r : Result ℕ Fault) → IsAnswerBy M K text at r → IsAnswerBy M (Either Test H K) text at r
-    second_by us some other never (Ok end) (xs, r) = (
+      begun_here : BeginsWith Test r.lexemes
+      begun_here = subst (BeginsWith Test) (append-nil r.lexemes) (begins_so next r.lexemes r.end r.scanned [] some)
+
+    pub second_by : ((xs : List Lexeme) (x : Lexeme) (f : Fault) → (BeginsWith Test xs → ⊥) → N xs x f → M xs x f) → (us : List Lexeme) → K us → (BeginsWith Test us → ⊥) → (NextIs Test text at → ⊥) → (r : Result ℕ Fault) → IsAnswerBy N K text at r → IsAnswerBy M (Either Test H K) text at r
+    second_by kinds us some other never (Ok end) (xs, r) = (
       xs,
       record {
         scanned = r.scanned;
@@ -127,7 +132,7 @@ module _ (M : List Lexeme → Lexeme → Fault → Type 0) (text : List ℕ) (at
         ];
       },
     )
-    second_by us some other never (Err f) r = record {
+    second_by kinds us some other never (Err f) r = record {
       lexemes = r.lexemes;
       end = r.end;
       scanned = r.scanned;
@@ -135,7 +140,7 @@ module _ (M : List Lexeme → Lexeme → Fault → Type 0) (text : List ℕ) (at
       unfinished = λ s. elim s [ inl h ↦ never (first_scanned r.lexemes r.end r.scanned Test (begun _ h)) | inr k ↦ r.unfinished k.1 ];
       here = elim r.here [
         | inl bad ↦ inl bad
-        | inr (x, found, refused, is) ↦ inr (x, found, (λ v. elim v.1 [ inl h ↦ never (first_of_scanned r.lexemes r.end r.scanned x found Test v.0 (begun _ h)) | inr k ↦ refused (v.0, k.1) ]), is)
+        | inr (x, found, refused, is) ↦ inr (x, found, (λ v. elim v.1 [ inl h ↦ never (first_of_scanned r.lexemes r.end r.scanned x found Test v.0 (begun _ h)) | inr k ↦ refused (v.0, k.1) ]), kinds r.lexemes x f (λ b. never (first_scanned r.lexemes r.end r.scanned Test b)) is)
       ];
     } where
       viable : (xs : List Lexeme) → Scans text at xs r.end → IsViable K xs → IsViable (Either Test H K) xs

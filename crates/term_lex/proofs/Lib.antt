@@ -11,6 +11,7 @@ pub mod Parts
 pub mod Lists
 pub mod Answers
 pub mod PlainAnswers
+pub mod Telling
 pub mod ListAnswers
 pub mod OneTree
 pub mod Spellings

@@ -15,6 +15,16 @@ pub record IsPart (G : List Lexeme → Type 0) (nullable : Bool) (first more : L
   pub begins : (x : Lexeme) → IsViable G (x ∷ []) → HasMark first x
   pub goes_on : (xs : List Lexeme) (x : Lexeme) → G xs → IsViable G (xs ++ x ∷ []) → HasMark more x
 
+-- what is known by some marks is known by more
+pub wider : {G : List Lexeme → Type 0} {nullable : Bool} {first more first' more' : List Mark} → ((x : Lexeme) → HasMark first x → HasMark first' x) → ((x : Lexeme) → HasMark more x → HasMark more' x) → IsPart G nullable first more → IsPart G nullable first' more'
+wider begins on p = record {
+  some = p.some;
+  some_is = p.some_is;
+  empty = p.empty;
+  begins = λ x v. begins x (p.begins x v);
+  goes_on = λ xs x g v. on x (p.goes_on xs x g v);
+}
+
 -- no lexeme that goes on behind the one begins the other
 abbrev pub Apart : (List Lexeme → Type 0) → (List Lexeme → Type 0) → Type 0
 Apart H K = (ts : List Lexeme) (x : Lexeme) → H ts → IsViable H (ts ++ x ∷ []) → IsViable K (x ∷ []) → ⊥

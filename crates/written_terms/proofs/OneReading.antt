@@ -28,24 +28,23 @@ use Rattle.written_terms.specs.Reading.{ReadsTerm, ReadsPattern}
 use Rattle.written_terms.specs.Refusing.{RefusesCell, IsFaultless, IsFirstRefused}
 use Rattle.written_terms.specs.Refusing.{RefusesTerm, RefusesPattern, IsTermAt, IsPatternAt}
 use Rattle.written_terms.specs.Cells.{MeanCells}
-use Rattle.term_lex.proofs.Marks.{Mark}
 use Rattle.written_terms.proofs.Notations.{IsLawful}
 use Rattle.written_terms.proofs.Meanings.{faultless, name_is_no_literal, literal_is_no_name, literal_is_no_list, list_is_no_literal, list_is_no_name}
 
 -- ---- what is written
 
-module _ (notation : Notation) {first more : List Mark} (laws : IsLawful notation first more) where
+module _ (notation : Notation) (laws : IsLawful notation) where
   -- lexemes are one term and its dot
   dotted_cells : (w v : notation.Written) (xs : List Lexeme) → IsDotted notation w xs → IsDotted notation v xs → cells (notation.outline w) ≡ cells (notation.outline v)
   dotted_cells w v xs (front, back, e, is, dot) (front', back', e', is', dot') =
-      let cut = one_cut (IsSomeTerm notation) (One (IsKind Dot)) (apart laws.part (kind_part Dot) laws.no_dot) front back front' back' (sym e ∙ e') (w, is) dot (v, is') dot' in
+      let cut = one_cut (IsSomeTerm notation) (One (IsKind Dot)) (apart laws.part (kind_part Dot) refl) front back front' back' (sym e ∙ e') (w, is) dot (v, is') dot' in
       laws.one_outline w v front is (subst (notation.IsTerm v) (sym cut.0) is')
 
   -- nothing goes on behind the dot
   dotted_reads : (w : notation.Written) (text : List ℕ) (at : ℕ) (xs : List Lexeme) (end : ℕ) → Scans text at xs end → IsDotted notation w xs → Reads (IsSomeDotted notation) text at xs end
   dotted_reads w text at xs end scanned (front, back, e, is, dot) =
       let sentence : IsSomeDotted notation xs = (front, back, e, (w, is), dot) in
-      record { scanned = scanned; sentence = sentence; longest = λ next found viable. (then_part laws.part (kind_part Dot) laws.no_dot).goes_on xs next sentence viable }
+      record { scanned = scanned; sentence = sentence; longest = λ next found viable. (then_part laws.part (kind_part Dot) refl).goes_on xs next sentence viable }
 
 -- ---- what it means
 
@@ -218,7 +217,7 @@ as_cells-injective (x ∷ xs) (y ∷ ys) e =
 ground-injective : (t u : Tree ReadHead) → ◌≡◌ {A = Tree (PatternCell ReadHead)} (map_heads fixed t) (map_heads fixed u) → t ≡ u
 ground-injective t u e = cells-injective t u (as_cells-injective (cells t) (cells u) (sym (cells-map_heads fixed t) ∙ ap cells e ∙ cells-map_heads fixed u))
 
-module _ (notation : Notation) {first more : List Mark} (laws : IsLawful notation first more) (table : Table) (one : HasDistinctNames table) (text : List ℕ) (at : ℕ) where
+module _ (notation : Notation) (laws : IsLawful notation) (table : Table) (one : HasDistinctNames table) (text : List ℕ) (at : ℕ) where
   abbrev ST : List Lexeme → Type 0
   ST xs = IsSomeTerm notation xs
 

@@ -4,7 +4,8 @@ use Rattle.eq_base.specs.Pattern.{fixed}
 use Rattle.term_lex.specs.declared.token.TokenKind.TheVariants.{Dot}
 use Rattle.term_lex.specs.Lexemes.{IsFirstFault, Plainly}
 use Rattle.term_lex.proofs.Readings.{scans_within, scans_append}
-use Rattle.term_lex.proofs.PlainAnswers.{kind_part, then_err, then_ok}
+use Rattle.term_lex.proofs.PlainAnswers.{kind_part}
+use Rattle.term_lex.proofs.Telling.{plain, then_err, then_ok}
 use Rattle.symbol_table.specs.Table.{names_of}
 use Rattle.symbol_table.specs.Reading.{read}
 use Rattle.written_terms.specs.declared.error.ReadError.TheVariants.{Refused}
@@ -42,7 +43,7 @@ returns-in_err-mentions-clause-answer c =
     let text = c.args.text.now in
     let at = c.args.at in
     let same : c.from_residual.result ≡ Err c.in_err-mentions.field-0.0 = search rules in
-    let why = refused_as (IsFirstFault Plainly IsSomeTerm text at) (RefusesTerm table text at) (λ f h. inl (then_err term_part (kind_part Dot) refl f h)) c.in_err-mentions.field-0.0 c.in_err-mentions.ensures.err in
+    let why = refused_as (IsFirstFault Plainly IsSomeTerm text at) (RefusesTerm table text at) (λ f h. inl (then_err plain term_part (kind_part Dot) refl refl f h)) c.in_err-mentions.field-0.0 c.in_err-mentions.ensures.err in
     subst (λ r. AnswersRight (IsTermAt table text at) (as_read (read c.args.symbols.now) r)) (sym same) why
 
 -- a fault where the dot should be
@@ -54,7 +55,7 @@ returns-in_err-end-clause-answer c =
     let f = c.in_err-end.field-0.0 in
     let m = c.in_ok-mentions.ensures.ok in
     let same : c.from_residual-in_err-end.result ≡ Err (Refused f) = search rules in
-    let why : RefusesTerm table text at f = inl (then_ok term_part (kind_part Dot) refl c.in_ok-mentions.end (m.lexemes, m.reads) (Err f) c.in_err-end.ensures) in
+    let why : RefusesTerm table text at f = inl (then_ok plain term_part (kind_part Dot) refl refl c.in_ok-mentions.end (m.lexemes, m.reads) (Err f) c.in_err-end.ensures) in
     subst (λ r. AnswersRight (IsTermAt table text at) (as_read (read c.args.symbols.now) r)) (sym same) why
 
 -- a name or a literal that means nothing
