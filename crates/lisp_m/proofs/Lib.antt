@@ -1,0 +1,8 @@
+pub mod Continuations
+pub mod Steps
+pub mod Outlines
+mod HeadTokens
+pub mod Follows
+pub mod OneReading
+pub mod Counting
+pub mod Reached

@@ -1,0 +1,14 @@
+//! The reader of terms in the notation of lists: arguments in square brackets, lists in round ones.
+#![tactic(auto)]
+
+mod mentions;
+mod place;
+mod read;
+mod scan;
+
+pub use read::{read_pattern, read_term};
+pub use scan::skip_term;
+pub use written_terms::ReadError;
+
+#[cfg(test)]
+mod tests;
