@@ -1,13 +1,12 @@
 -- Patterns in a vector.
 use Rattle.std.proofs.Common.{◌≡◌, ℕ, ◌+◌, ◌-◌, ◌<◌, List, [], ◌∷◌, ◌++◌, length, map, get_or, refl, sym, ◌∙◌, ap, subst, arith}
-use Rattle.std.proofs.lemmas.List.{map_push}
 use Rattle.eq_base.specs.Tree.{Tree, node, head_of, arity_of, size, nth_subtree, map_heads, cells}
 use Rattle.eq_base.specs.Pattern.{PatternCell}
-use Rattle.eq_base.specs.Preorder.{labels, tree_of, EndsFrom}
+use Rattle.eq_base.specs.Preorder.{labels, tree_of}
 use Rattle.eq_base.specs.Building.{missing_from, missing_of}
 use Rattle.eq_base.specs.Cells.{arity_in, with_arity, root_cell, tree_cell, CellTakesArguments}
 use Rattle.eq_base.specs.Kinds.{cell_from, cell_of, pattern_cell}
-use Rattle.eq_base.specs.Vectors.{IsProper, AreProper, pattern_of, cells_of, IsPatternVector, IsBegunPattern}
+use Rattle.eq_base.specs.Vectors.{IsProper, AreProper, pattern_of, IsPatternVector}
 use Rattle.eq_base.specs.declared.head.Head as heads
 use Rattle.eq_base.specs.declared.head.Head.TheVariants as head
 use Rattle.eq_base.specs.declared.head.Cell.TheVariants as cell
@@ -16,8 +15,6 @@ use Rattle.eq_base.specs.declared.kind.Kind.TheVariants.{Symbol, Numeral, Atom, 
 use Rattle.eq_base.specs.declared.preorder.Node.{Node}
 use Rattle.eq_base.proofs.Trees.{count-map_all_heads, size-map_heads, cells-map_heads, nth_subtree-map_heads}
 use Rattle.eq_base.proofs.Reading.{length-nodes, item_is, arity_is, end_is}
-use Rattle.eq_base.proofs.Built.{IsBegun-push, IsPreorder-finished, cells-tree_of}
-use Rattle.eq_base.proofs.Lists.{all_push}
 use Rattle.eq_base.proofs.Terms.{label_holds}
 
 -- ---- the cell of a part
@@ -86,21 +83,8 @@ missing_from-cells n [] all = refl
 missing_from-cells n (l ∷ ls) all = missing_from-cells (n - 1 + l.1) ls all.1 ∙ ap (λ a. missing_from (n - 1 + a) (map with_arity (map cell_of ls))) (sym all.0.arity)
 
 -- as many patterns are missing after the labels as after the cells
-pub missing_of-cells : (nodes : List (Node kinds.Kind)) → AreProper (labels nodes) → missing_of (labels nodes) ≡ missing_of (map with_arity (cells_of nodes))
-missing_of-cells nodes all = missing_from-cells 1 (labels nodes) all
-
-pub IsBegunPattern-push : (nodes : List (Node kinds.Kind)) (missing : ℕ) (n : Node kinds.Kind) → IsBegunPattern nodes missing → 0 < missing_of (labels nodes) → n.arity < 256 → IsProper (n.item, n.arity) → IsBegunPattern (nodes ++ n ∷ []) (missing - 1 + n.arity)
-IsBegunPattern-push nodes missing n b some small proper =
-    let label : Node kinds.Kind → kinds.Kind × ℕ = λ m. (m.item, m.arity) in
-    record {
-      begun = rw (map_push label nodes n) (IsBegun-push (labels nodes) missing (n.item, n.arity) b.begun some small);
-      proper = rw (map_push label nodes n) (all_push IsProper (labels nodes) (n.item, n.arity) b.proper proper);
-    }
-
-pub cells_of-push : (nodes : List (Node kinds.Kind)) (n : Node kinds.Kind) → cells_of (nodes ++ n ∷ []) ≡ cells_of nodes ++ cell_from n.item n.arity ∷ []
-cells_of-push nodes n =
-    let label : Node kinds.Kind → kinds.Kind × ℕ = λ m. (m.item, m.arity) in
-    ap (map cell_of) (map_push label nodes n) ∙ map_push cell_of (labels nodes) (n.item, n.arity)
+pub missing_of-cells : (ls : List (kinds.Kind × ℕ)) → AreProper ls → missing_of ls ≡ missing_of (map with_arity (map cell_of ls))
+missing_of-cells ls all = missing_from-cells 1 ls all
 
 -- a label as a cell of the pattern's tree
 abbrev tree_label : kinds.Kind × ℕ → PatternCell heads.Head × ℕ
@@ -118,15 +102,8 @@ tree_labels : (ls : List (kinds.Kind × ℕ)) → AreProper ls → map tree_labe
 tree_labels [] all = refl
 tree_labels (l ∷ ls) all = rw (tree_cell-label l all.0, tree_labels ls all.1) refl
 
-module _ (old new : List (Node kinds.Kind)) (missing : ℕ) (b : IsBegunPattern old missing) (none : missing_of (labels old) ≡ 0) (same : labels new ≡ labels old) where
-  pub IsPatternVector-finished : EndsFrom 0 new → IsPatternVector new
-  IsPatternVector-finished ends = record {
-    preorder = IsPreorder-finished (Var 0) old new missing b.begun none same ends;
-    proper = subst AreProper (sym same) b.proper;
-  }
-
-  pub cells-finished_pattern : cells (pattern_of new) ≡ map tree_cell (cells_of old)
-  cells-finished_pattern =
-      cells-map_heads pattern_cell (tree_of (Var 0) new)
-      ∙ ap (map tree_label) (cells-tree_of (Var 0) old new missing b.begun none same)
-      ∙ tree_labels (labels old) b.proper
+pub cells-pattern_of : (nodes : List (Node kinds.Kind)) → IsPatternVector nodes → cells (pattern_of nodes) ≡ map tree_cell (map cell_of (labels nodes))
+cells-pattern_of nodes vector =
+    cells-map_heads pattern_cell (tree_of (Var 0) nodes)
+    ∙ ap (map tree_label) vector.preorder.cells
+    ∙ tree_labels (labels nodes) vector.proper

@@ -1,7 +1,10 @@
 -- The values of the operations, over unbounded integers, and which of them are within the limits.
-use Rattle.std.specs.Prelude.{◌≡◌, ◌++◌, ◌^◌, ℕ, ℤ, pos, ◌+ℤ◌, ◌-ℤ◌, ◌*ℤ◌, neg_ℤ, int_lt, int_le, nat_le, ◌&&◌, Bool, true, false, IsFalse, List, length, bytes_eq, if◌then◌else◌, Option, Some, None, Contains}
+use Rattle.std.specs.Prelude.{◌≡◌, ◌++◌, ◌^◌, ℕ, ℤ, pos, ◌+ℤ◌, ◌-ℤ◌, ◌*ℤ◌, neg_ℤ, int_lt, int_le, nat_le, ◌&&◌}
+use Rattle.std.specs.Prelude.{Bool, true, false, IsFalse, List, length, bytes_eq, if◌then◌else◌, Option, Some, None}
+use Rattle.std.specs.Prelude.{Contains}
 use Rattle.std.specs.Int.{int_div_euclid, int_rem_euclid}
 use Rattle.std.specs.Ordering.{int_eq}
+use Rattle.eq_base.specs.Limits.{most_text_bytes}
 use Rattle.eq_base.specs.Tree.{Tree, node, empty, grow}
 use Rattle.eq_base.specs.Pattern.{PatternCell, fixed, restricted, IsInstanceOf}
 use Rattle.eq_base.specs.Rewriting.{operation, Rule, System}
@@ -10,7 +13,8 @@ use Rattle.eq_base.specs.ReadHead.{ReadHead, symbol, numeral, atom, text}
 use Rattle.eq_base.specs.declared.meeting.SymbolClass.{SymbolClass}
 use Rattle.eq_base.specs.declared.meeting.SymbolClass.TheVariants.{Numerals, Atoms, Strings}
 use Rattle.eq_base.specs.declared.rules.Op.{Op}
-use Rattle.eq_base.specs.declared.rules.Op.TheVariants.{AddInt, SubInt, MultInt, DivInt, ModInt, EquInt, LessInt, EquAtom, EquStr, ConcatStr, LengthStr}
+use Rattle.eq_base.specs.declared.rules.Op.TheVariants.{AddInt, SubInt, MultInt, DivInt, ModInt, EquInt, LessInt}
+use Rattle.eq_base.specs.declared.rules.Op.TheVariants.{EquAtom, EquStr, ConcatStr, LengthStr}
 
 -- the symbol of a truth value
 abbrev pub truth : Bool → ReadHead
@@ -27,7 +31,8 @@ compares op = false
 
 -- ---- values, whatever their size
 
--- the value of two numerals; division is Euclidean, with a remainder from 0 to below the divisor's absolute value, and there is none by 0
+-- the value of two numerals; division is Euclidean, with a remainder from 0 to below the divisor's absolute value,
+-- and there is none by 0
 abbrev pub of_numerals : Op → ℤ → ℤ → Option ReadHead
 of_numerals AddInt a b = Some (numeral (a +ℤ b))
 of_numerals SubInt a b = Some (numeral (a -ℤ b))
@@ -79,7 +84,7 @@ abbrev pub fits : ReadHead → Bool
 fits (symbol s) = true
 fits (numeral i) = int_le (neg_ℤ (pos (2 ^ 127))) i && int_lt i (pos (2 ^ 127))
 fits (atom a) = true
-fits (text t) = nat_le (length t) 65535
+fits (text t) = nat_le (length t) most_text_bytes
 
 -- the head as a term, where it is within the limits
 abbrev pub within : Option ReadHead → Option (Tree ReadHead)

@@ -1,5 +1,7 @@
--- A vector of cells in preorder, each with its number of arguments and the number after its subtree's last cell.
-use Rattle.std.specs.Prelude.{◌≡◌, ℕ, ◌+◌, ◌-◌, ◌*◌, ◌<◌, ◌≤◌, List, [], ◌∷◌, ◌++◌, map, drop, length, slice_index}
+-- A vector of cells in preorder, each with its number of arguments and the number after its subtree's last
+-- cell.
+use Rattle.std.specs.Prelude.{◌≡◌, ℕ, ◌+◌, ◌-◌, ◌*◌, ◌<◌, ◌≤◌, List, [], ◌∷◌, ◌++◌, map, drop, length}
+use Rattle.std.specs.Prelude.{slice_index}
 use Rattle.eq_base.specs.Tree.{Tree, cells, all_cells}
 use Rattle.eq_base.specs.Storing.{forest_of, first_or, first_size}
 use Rattle.eq_base.specs.Building.{missing_of}
@@ -24,7 +26,8 @@ module _ {T : Type 0} where
 
   -- the stored ends from cell n on are right
   abbrev pub EndsFrom : ℕ → List (Node T) → Type 0
-  EndsFrom n nodes = (k : ℕ) → n ≤ k → k < length nodes → slice_index (ends nodes) k ≡ end_at (labels nodes) k
+  EndsFrom n nodes = (k : ℕ) → n ≤ k → k < length nodes
+      → slice_index (ends nodes) k ≡ end_at (labels nodes) k
 
   -- the tree of a vector, or a leaf where there is none
   abbrev pub tree_of : T → List (Node T) → Tree T

@@ -20,4 +20,8 @@ rule_of e = record { left = e.left; right = right_side e.right }
 
 -- rewriting by these equations, with the symbol classes and these values of operations
 abbrev pub system_of : (Op → Tree Head → Option (Tree Head)) → List Equation → System Head
-system_of value_of equations = record { rules = map rule_of equations; in_class = in_symbol_class; value_of = value_of }
+system_of value_of equations = record {
+  rules = map rule_of equations;
+  in_class = in_symbol_class;
+  value_of = value_of;
+}

@@ -1,14 +1,13 @@
 -- What the vectors of terms and patterns keep.
-use Rattle.std.specs.Prelude.{◌≡◌, ℕ, List, map}
+use Rattle.std.specs.Prelude.{◌≡◌, ℕ, List}
 use Rattle.std.specs.List.{AllByRecursion}
 use Rattle.eq_base.specs.Tree.{Tree, map_heads}
 use Rattle.eq_base.specs.Pattern.{PatternCell}
 use Rattle.eq_base.specs.Cells.{arity_in, TakesArguments, CellTakesArguments}
 use Rattle.eq_base.specs.Kinds.{cell_of, pattern_cell}
-use Rattle.eq_base.specs.Preorder.{labels, tree_of, IsPreorder, IsBegun}
+use Rattle.eq_base.specs.Preorder.{labels, tree_of, IsPreorder}
 use Rattle.eq_base.specs.declared.head.Head.{Head}
 use Rattle.eq_base.specs.declared.head.Head.TheVariants.{Symbol}
-use Rattle.eq_base.specs.declared.head.Cell.{Cell}
 use Rattle.eq_base.specs.declared.kind.Kind.{Kind}
 use Rattle.eq_base.specs.declared.kind.Kind.TheVariants.{Var}
 use Rattle.eq_base.specs.declared.preorder.Node.{Node}
@@ -28,20 +27,11 @@ pub record IsTermVector (nodes : List (Node Head)) : Type 0 where
   pub preorder : IsPreorder (term_of nodes) nodes
   pub arguments : TakeArguments (labels nodes)
 
--- the vector holds the cells of a term so far
-pub record IsBegunTerm (nodes : List (Node Head)) (missing : ℕ) : Type 0 where
-  pub begun : IsBegun (labels nodes) missing
-  pub arguments : TakeArguments (labels nodes)
-
 -- ---- patterns
 
 -- the pattern of a vector
 abbrev pub pattern_of : List (Node Kind) → Tree (PatternCell Head)
 pattern_of nodes = map_heads pattern_cell (tree_of (Var 0) nodes)
-
--- the cells of a vector
-abbrev pub cells_of : List (Node Kind) → List Cell
-cells_of nodes = map cell_of (labels nodes)
 
 -- the label is that of a cell with its own number of arguments, which its head takes
 pub record IsProper (label : Kind × ℕ) : Type 0 where
@@ -55,9 +45,4 @@ AreProper ls = AllByRecursion IsProper ls
 -- the vector holds a whole pattern
 pub record IsPatternVector (nodes : List (Node Kind)) : Type 0 where
   pub preorder : IsPreorder (tree_of (Var 0) nodes) nodes
-  pub proper : AreProper (labels nodes)
-
--- the vector holds the cells of a pattern so far
-pub record IsBegunPattern (nodes : List (Node Kind)) (missing : ℕ) : Type 0 where
-  pub begun : IsBegun (labels nodes) missing
   pub proper : AreProper (labels nodes)

@@ -5,7 +5,8 @@ ghost use Rattle.eq_base.specs.Building.{missing_of};
 ghost use Rattle.eq_base.specs.Cells.{TakesArguments};
 
 use crate::head::{Head, NoMemory};
-use crate::preorder::{Node, fill_ends};
+use crate::making::Begun;
+use crate::preorder::Node;
 use crate::view::TermView;
 use std::alloc::Global;
 use std::marker::Model;
@@ -92,21 +93,19 @@ impl TermView for Flat {
 /// Builds a ground term from its heads in preorder.
 #[derive(Drop)]
 pub struct FlatMaker {
-    nodes: Vec<Node<Head>>,
-    missing: u128,
+    begun: Begun<Head>,
 }
 
 impl Model for FlatMaker {
     ghost use Rattle.std.specs.Prelude.{ℕ, List};
-    ghost use Rattle.eq_base.specs.Preorder.{labels};
-    ghost use Rattle.eq_base.specs.Vectors.{IsBegunTerm};
+    ghost use Rattle.eq_base.specs.Vectors.{TakeArguments};
     ghost use Rattle.eq_base.specs.declared.head.Head.{Head};
 
     ghost Value = { List (Head × ℕ) };
 
-    ghost view = { λ m. labels m.nodes.items };
+    ghost view = { λ m. m.begun };
 
-    ghost invariant = { λ m. IsBegunTerm m.nodes.items m.missing };
+    ghost invariant = { λ m. TakeArguments m.begun };
 }
 
 impl FlatMaker {
@@ -115,8 +114,7 @@ impl FlatMaker {
         ensures { result ≡ [] }
     {
         FlatMaker {
-            nodes: Vec::new(alloc),
-            missing: 1,
+            begun: Begun::new(alloc),
         }
     }
 
@@ -124,7 +122,7 @@ impl FlatMaker {
     pub fn missing(&self) -> u128
         ensures { result ≡ missing_of self.now }
     {
-        self.missing
+        self.begun.missing()
     }
 
     /// Fills the first missing term by a head over as many missing terms as it has arguments,
@@ -135,13 +133,7 @@ impl FlatMaker {
         ensures ok { OnOk result (self.new ≡ self.old ++ (head, arity) ∷ []) }
         ensures err { OnErr result (self.new ≡ self.old) }
     {
-        let node = Node {
-            item: head,
-            arity,
-            end: 0,
-        };
-        self.nodes.push(node)?;
-        self.missing = self.missing - 1 + u128::from(arity);
+        self.begun.push(head, arity)?;
         Ok(())
     }
 
@@ -150,12 +142,10 @@ impl FlatMaker {
         requires { missing_of self ≡ 0 }
         ensures { cells result ≡ self }
     {
-        let FlatMaker {
-            mut nodes,
-            missing: _,
-        } = self;
-        fill_ends(&mut nodes);
-        Flat { nodes }
+        let FlatMaker { begun } = self;
+        Flat {
+            nodes: begun.finish(),
+        }
     }
 }
 

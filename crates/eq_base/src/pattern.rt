@@ -6,7 +6,8 @@ ghost use Rattle.eq_base.specs.Cells.{arity_in, root_cell, tree_cell, with_arity
 
 use crate::head::{Cell, NoMemory};
 use crate::kind::Kind;
-use crate::preorder::{Node, fill_ends};
+use crate::making::Begun;
+use crate::preorder::Node;
 use std::alloc::Global;
 use std::marker::Model;
 
@@ -64,20 +65,20 @@ impl Pattern {
 /// Builds a pattern from its cells in preorder.
 #[derive(Drop)]
 pub struct PatternMaker {
-    nodes: Vec<Node<Kind>>,
-    missing: u128,
+    begun: Begun<Kind>,
 }
 
 impl Model for PatternMaker {
-    ghost use Rattle.std.specs.Prelude.{List};
-    ghost use Rattle.eq_base.specs.Vectors.{cells_of, IsBegunPattern};
+    ghost use Rattle.std.specs.Prelude.{List, map};
+    ghost use Rattle.eq_base.specs.Kinds.{cell_of};
+    ghost use Rattle.eq_base.specs.Vectors.{AreProper};
     ghost use Rattle.eq_base.specs.declared.head.Cell.{Cell};
 
     ghost Value = { List Cell };
 
-    ghost view = { λ m. cells_of m.nodes.items };
+    ghost view = { λ m. map cell_of m.begun };
 
-    ghost invariant = { λ m. IsBegunPattern m.nodes.items m.missing };
+    ghost invariant = { λ m. AreProper m.begun };
 }
 
 impl PatternMaker {
@@ -86,8 +87,7 @@ impl PatternMaker {
         ensures { result ≡ [] }
     {
         PatternMaker {
-            nodes: Vec::new(alloc),
-            missing: 1,
+            begun: Begun::new(alloc),
         }
     }
 
@@ -95,7 +95,7 @@ impl PatternMaker {
     pub fn missing(&self) -> u128
         ensures { result ≡ missing_of (map with_arity self.now) }
     {
-        self.missing
+        self.begun.missing()
     }
 
     /// Fills the first missing pattern by a cell over as many missing patterns as it has arguments,
@@ -106,14 +106,7 @@ impl PatternMaker {
         ensures ok { OnOk result (self.new ≡ self.old ++ cell ∷ []) }
         ensures err { OnErr result (self.new ≡ self.old) }
     {
-        let arity = cell.arity();
-        let node = Node {
-            item: Kind::of(cell),
-            arity,
-            end: 0,
-        };
-        self.nodes.push(node)?;
-        self.missing = self.missing - 1 + u128::from(arity);
+        self.begun.push(Kind::of(cell), cell.arity())?;
         Ok(())
     }
 
@@ -122,11 +115,9 @@ impl PatternMaker {
         requires { missing_of (map with_arity self) ≡ 0 }
         ensures { cells result ≡ map tree_cell self }
     {
-        let PatternMaker {
-            mut nodes,
-            missing: _,
-        } = self;
-        fill_ends(&mut nodes);
-        Pattern { nodes }
+        let PatternMaker { begun } = self;
+        Pattern {
+            nodes: begun.finish(),
+        }
     }
 }

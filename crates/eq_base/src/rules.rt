@@ -1,10 +1,13 @@
 // Equations, and lists of them.
 ghost use Rattle.std.specs.Prelude.{◌≡◌, ◌<◌, [], ◌∷◌, ◌++◌, length, OnOk, OnErr, slice_get, Some};
+ghost use Rattle.std.specs.Slice.Iter.{iter_rest};
+ghost use Rattle.std.specs.Iterator.Adapters.{IterYieldsInOrder};
 
 use crate::head::NoMemory;
 use crate::pattern::Pattern;
 use std::alloc::Global;
 use std::marker::Model;
+use std::slice::Iter;
 
 /// A built-in operation. All take two operands but `LengthStr`, which takes one.
 #[derive(Clone, Copy, PartialEq, Eq, Debug)]
@@ -113,5 +116,14 @@ impl Rules {
         ensures { slice_get self.now number ≡ Some result.now }
     {
         &self.equations[number]
+    }
+
+    /// The equations, in their order.
+    pub fn iter(&self) -> Iter<'_, Equation>
+        ensures rest { iter_rest result ≡ self.now }
+        ensures len { length (iter_rest result) ≡ length self.now }
+        ensures runs { IterYieldsInOrder Equation }
+    {
+        self.equations.iter()
     }
 }

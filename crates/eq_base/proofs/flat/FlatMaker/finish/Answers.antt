@@ -1,43 +1,17 @@
-use Rattle.std.proofs.Common.{◌≡◌, ap, ◌∙◌, sym, subst}
-use Rattle.std.proofs.lemmas.List.{with_items_is}
-use Rattle.std.specs.Vec.{with_items}
-use Rattle.eq_base.specs.Tree.{cells}
-use Rattle.eq_base.specs.Preorder.{labels}
-use Rattle.eq_base.specs.Vectors.{term_of, TakeArguments, IsTermVector}
+use Rattle.std.proofs.Common.{◌≡◌, ◌∙◌, sym, subst}
 use Rattle.eq_base.specs.Building.{missing_of}
+use Rattle.eq_base.specs.Vectors.{TakeArguments}
 use Rattle.eq_base.specs.declared.head.Head.TheVariants.{Symbol}
-use Rattle.eq_base.proofs.Built.{IsWhole-finished, cells-tree_of, IsPreorder-finished}
 use Rattle.eq_base.proofs.flat.FlatMaker.finish.Goals as goal
-use Rattle.eq_base.proofs.flat.FlatMaker.finish.Goals.{After-deref_mut, After-fill_ends}
 
-none_missing : (c : After-deref_mut) → missing_of (labels c.self.inside.nodes.items) ≡ 0
-none_missing c = subst (λ l. missing_of l ≡ 0) (sym c.self.view_is) c.requires
-
-pub fill_ends-requires : goal.fill_ends-requires
-fill_ends-requires c =
-    rw c.deref_mut.ensures.value (IsWhole-finished (labels c.self.inside.nodes.items) c.self.inside.missing c.self.invariant.begun (none_missing c))
-
--- the vector afterwards
-filled : (c : After-fill_ends) → (with_items c.self.inside.nodes c.fill_ends.new.nodes).items ≡ c.fill_ends.new.nodes
-filled c = with_items_is c.self.inside.nodes c.fill_ends.new.nodes (c.fill_ends.auto.nodes ∙ c.deref_mut.ensures.len)
-
-same : (c : After-fill_ends) → labels c.fill_ends.new.nodes ≡ labels c.self.inside.nodes.items
-same c = c.fill_ends.ensures.labels ∙ ap labels c.deref_mut.ensures.value
+pub finish-requires : goal.finish-requires
+finish-requires c = subst (λ l. missing_of l ≡ 0) (sym c.self.view_is) c.requires
 
 pub invariant_of-result : goal.invariant_of-result
-invariant_of-result c =
-    let d = (goal.at.invariant_of-result c).After-fill_ends in
-    let e = (goal.at.invariant_of-result c).After-deref_mut in
-    subst IsTermVector (sym (filled d))
-    (record {
-      preorder = IsPreorder-finished (Symbol 0) c.self.inside.nodes.items c.fill_ends.new.nodes c.self.inside.missing c.self.invariant.begun (none_missing e) (same d) c.fill_ends.ensures.ends;
-      arguments = subst TakeArguments (sym (same d)) c.self.invariant.arguments;
-    })
+invariant_of-result c = record {
+  preorder = c.finish.ensures.whole (Symbol 0);
+  arguments = subst TakeArguments (sym c.finish.ensures.labels) c.self.invariant;
+}
 
 pub returns : goal.returns
-returns c =
-    let d = (goal.at.returns c).After-fill_ends in
-    let e = (goal.at.returns c).After-deref_mut in
-    ap (λ nodes. cells (term_of nodes)) (filled d)
-    ∙ cells-tree_of (Symbol 0) c.self.inside.nodes.items c.fill_ends.new.nodes c.self.inside.missing c.self.invariant.begun (none_missing e) (same d)
-    ∙ c.self.view_is
+returns c = (c.finish.ensures.whole (Symbol 0)).cells ∙ c.finish.ensures.labels ∙ c.self.view_is

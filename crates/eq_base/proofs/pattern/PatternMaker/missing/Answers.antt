@@ -6,5 +6,4 @@ use Rattle.eq_base.proofs.pattern.PatternMaker.missing.Goals as goal
 
 pub returns : goal.returns
 returns c =
-    let i = c.self.invariant in
-    i.begun.missing_is ∙ missing_of-cells c.self.inside.nodes.items i.proper ∙ ap (λ l. missing_of (map with_arity l)) c.self.view_is
+    c.missing.ensures ∙ missing_of-cells c.self.inside.begun c.self.invariant ∙ ap (λ l. missing_of (map with_arity l)) c.self.view_is
