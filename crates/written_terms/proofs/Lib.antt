@@ -4,3 +4,4 @@ pub mod Keeping
 pub mod Meanings
 pub mod OneReading
 pub mod Readables
+pub mod ReadAnswers
