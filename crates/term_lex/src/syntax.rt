@@ -3,4 +3,6 @@
 pub enum Syntax {
     /// A name, with its arguments in round brackets and commas between them.
     Standmath,
+    /// A name, with its arguments in square brackets and semicolons between them, and lists in round ones.
+    LispM,
 }
