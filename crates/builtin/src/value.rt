@@ -6,7 +6,7 @@ ghost use Rattle.eq_base.specs.Operations.{of_numerals, of_atoms, of_two};
 ghost use Rattle.eq_base.specs.declared.rules.Op.TheVariants.{DivInt, ModInt, LengthStr};
 ghost use Rattle.builtin.specs.Values.{IsRead, AreToldApart, value_by, IsValue};
 
-use eq_base::Op;
+use eq_base::{MOST_TEXT_BYTES, Op};
 
 /// An operand, as far as operations look at it.
 #[derive(Clone, Copy)]
@@ -35,9 +35,6 @@ pub enum Value {
     /// The value is past the limits.
     Past,
 }
-
-// The most bytes of a string.
-const MOST_BYTES: usize = 65535;
 
 /// The value of an operation on two operands; `LengthStr` does not look at the other one. Atoms and
 /// strings are compared by their numbers. It takes no memory.
@@ -136,7 +133,7 @@ fn value_of_texts(op: Op, number: usize, bytes: &[u8], other: Operand<'_>) -> Va
     };
     match op {
         Op::EquStr => Value::Truth(number == another),
-        Op::ConcatStr if bytes.len() + more.len() <= MOST_BYTES => Value::Join,
+        Op::ConcatStr if bytes.len() + more.len() <= MOST_TEXT_BYTES => Value::Join,
         Op::ConcatStr => Value::Past,
         _ => Value::NoEquation,
     }

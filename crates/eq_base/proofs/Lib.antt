@@ -2,6 +2,8 @@ pub mod Lists
 pub mod Trees
 pub mod Positions
 pub mod Replacing
+pub mod Numbers
+pub mod Arguments
 pub mod Scans
 pub mod Instances
 pub mod Heads

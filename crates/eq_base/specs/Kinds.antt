@@ -1,4 +1,4 @@
--- What a pattern's vector holds of its cells.
+-- Words of private functions and fields alone: what a pattern's vector holds of its cells.
 use Rattle.std.specs.Prelude.{ℕ}
 use Rattle.eq_base.specs.Pattern.{PatternCell}
 use Rattle.eq_base.specs.Cells.{kind_of}

@@ -1,6 +1,8 @@
 -- The values of the operations, over unbounded integers, and which of them are within the limits.
-use Rattle.std.specs.Prelude.{◌≡◌, ◌++◌, ◌^◌, ℕ, ℤ, pos, ◌+ℤ◌, ◌-ℤ◌, ◌*ℤ◌, neg_ℤ, int_lt, int_le, nat_le, ◌&&◌}
-use Rattle.std.specs.Prelude.{Bool, true, false, IsFalse, List, length, bytes_eq, if◌then◌else◌, Option, Some, None}
+use Rattle.std.specs.Prelude.{◌≡◌, ◌++◌, ◌^◌, ℕ, ℤ, pos, ◌+ℤ◌, ◌-ℤ◌, ◌*ℤ◌, neg_ℤ, int_lt, int_le, nat_le}
+use Rattle.std.specs.Prelude.{◌&&◌}
+use Rattle.std.specs.Prelude.{Bool, true, false, IsFalse, List, length, bytes_eq, if◌then◌else◌, Option, Some}
+use Rattle.std.specs.Prelude.{None}
 use Rattle.std.specs.Prelude.{Contains}
 use Rattle.std.specs.Int.{int_div_euclid, int_rem_euclid}
 use Rattle.std.specs.Ordering.{int_eq}
@@ -13,7 +15,8 @@ use Rattle.eq_base.specs.ReadHead.{ReadHead, symbol, numeral, atom, text}
 use Rattle.eq_base.specs.declared.meeting.SymbolClass.{SymbolClass}
 use Rattle.eq_base.specs.declared.meeting.SymbolClass.TheVariants.{Numerals, Atoms, Strings}
 use Rattle.eq_base.specs.declared.rules.Op.{Op}
-use Rattle.eq_base.specs.declared.rules.Op.TheVariants.{AddInt, SubInt, MultInt, DivInt, ModInt, EquInt, LessInt}
+use Rattle.eq_base.specs.declared.rules.Op.TheVariants.{AddInt, SubInt, MultInt, DivInt, ModInt, EquInt}
+use Rattle.eq_base.specs.declared.rules.Op.TheVariants.{LessInt}
 use Rattle.eq_base.specs.declared.rules.Op.TheVariants.{EquAtom, EquStr, ConcatStr, LengthStr}
 
 -- the symbol of a truth value
@@ -31,7 +34,8 @@ compares op = false
 
 -- ---- values, whatever their size
 
--- the value of two numerals; division is Euclidean, with a remainder from 0 to below the divisor's absolute value,
+-- the value of two numerals; division is Euclidean, with a remainder from 0 to below the divisor's absolute
+-- value,
 -- and there is none by 0
 abbrev pub of_numerals : Op → ℤ → ℤ → Option ReadHead
 of_numerals AddInt a b = Some (numeral (a +ℤ b))

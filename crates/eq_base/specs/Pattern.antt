@@ -80,7 +80,8 @@ module _ {H : Type 0} where
   IsConstantOf in_class class (node h empty) = IsTrue (in_class class h)
   IsConstantOf in_class class (node h (grow t ts)) = ⊥
 
-  -- the substitution respects the pattern's restrictions: each restricted variable has a constant of its class
+  -- the substitution respects the pattern's restrictions: each restricted variable has a constant of its
+  -- class
   abbrev pub Respects : Classes H → Substitution H → Tree (PatternCell H) → Type 0
   Respects in_class σ p = AllByRecursion (λ r. IsConstantOf in_class r.1 (σ r.0)) (restrictions p)
 

@@ -1,5 +1,5 @@
--- A vector of cells in preorder, each with its number of arguments and the number after its subtree's last
--- cell.
+-- Words of private functions and fields alone: a vector of cells in preorder, each with its number of arguments
+-- and the number after its subtree's last cell.
 use Rattle.std.specs.Prelude.{◌≡◌, ℕ, ◌+◌, ◌-◌, ◌*◌, ◌<◌, ◌≤◌, List, [], ◌∷◌, ◌++◌, map, drop, length}
 use Rattle.std.specs.Prelude.{slice_index}
 use Rattle.eq_base.specs.Tree.{Tree, cells, all_cells}

@@ -3,7 +3,8 @@ use Rattle.std.specs.Prelude.{◌≡◌, ℕ, zero, suc, ◌⊎◌, List, [], �
 use Rattle.std.specs.Coded.{Coded, code_by, coded×, coded⊎, coded_list, coded_ℕ}
 use Rattle.std.proofs.Common.{sym, ◌∙◌, ap, append_assoc, inl, inr}
 use Rattle.std.proofs.lemmas.List.{append-nil}
-use Rattle.eq_base.specs.Tree.{Tree, Forest, node, empty, grow, head_of, args_of, count, size, cells, all_cells}
+use Rattle.eq_base.specs.Tree.{Tree, Forest, node, empty, grow, head_of, args_of, count, size, cells}
+use Rattle.eq_base.specs.Tree.{all_cells}
 use Rattle.eq_base.specs.Pattern.{PatternCell, fixed, variable, restricted}
 
 -- ---- trees from cells
@@ -53,29 +54,46 @@ join-empty empty = refl
 join-empty (grow t ts) = ap (grow t) (join-empty ts)
 
 mutual
-  pub forest_of-cells-append : {A : Type 0} → (t : Tree A) (cs : List (A × ℕ)) → forest_of (cells t ++ cs) ≡ grow t (forest_of cs)
-  forest_of-cells-append (node a args) cs = rw (forest_of-all_cells-append args cs, first_trees-join args (forest_of cs), later_trees-join args (forest_of cs)) refl
+  pub forest_of-cells-append : {A : Type 0} → (t : Tree A) (cs : List (A × ℕ))
+      → forest_of (cells t ++ cs) ≡ grow t (forest_of cs)
+  forest_of-cells-append (node a args) cs =
+      rw (
+        forest_of-all_cells-append args cs,
+        first_trees-join args (forest_of cs),
+        later_trees-join args (forest_of cs),
+      )
+      refl
 
-  pub forest_of-all_cells-append : {A : Type 0} → (ts : Forest A) (cs : List (A × ℕ)) → forest_of (all_cells ts ++ cs) ≡ join ts (forest_of cs)
+  pub forest_of-all_cells-append : {A : Type 0} → (ts : Forest A) (cs : List (A × ℕ))
+      → forest_of (all_cells ts ++ cs) ≡ join ts (forest_of cs)
   forest_of-all_cells-append empty cs = refl
   forest_of-all_cells-append (grow t ts) cs =
-      rw (append_assoc (cells t) (all_cells ts) cs, forest_of-cells-append t (all_cells ts ++ cs), forest_of-all_cells-append ts cs) refl
+      rw (
+        append_assoc (cells t) (all_cells ts) cs,
+        forest_of-cells-append t (all_cells ts ++ cs),
+        forest_of-all_cells-append ts cs,
+      )
+      refl
 
 pub forest_of-all_cells : {A : Type 0} → (ts : Forest A) → forest_of (all_cells ts) ≡ ts
-forest_of-all_cells ts = ap forest_of (sym (append-nil (all_cells ts))) ∙ forest_of-all_cells-append ts [] ∙ join-empty ts
+forest_of-all_cells ts =
+    ap forest_of (sym (append-nil (all_cells ts))) ∙ forest_of-all_cells-append ts [] ∙ join-empty ts
 
 -- ---- codes
 
 -- a list of trees is stored as its cells
 abbrev pub forest_code : {A : Type 0} → Coded A → Coded (Forest A)
-forest_code {A} c = code_by (List (A × ℕ)) (coded_list (coded× c coded_ℕ)) all_cells forest_of forest_of-all_cells
+forest_code {A} c =
+    code_by (List (A × ℕ)) (coded_list (coded× c coded_ℕ)) all_cells forest_of forest_of-all_cells
 
 pub node-parts : {A : Type 0} → (t : Tree A) → node (head_of t) (args_of t) ≡ t
 node-parts (node a args) = refl
 
 -- a tree is stored as its head and its arguments
 abbrev pub tree_code : {A : Type 0} → Coded A → Coded (Tree A)
-tree_code {A} c = code_by (A × Forest A) (coded× c (forest_code c)) (λ t. (head_of t, args_of t)) (λ p. node p.0 p.1) node-parts
+tree_code {A} c =
+    code_by (A × Forest A) (coded× c (forest_code c))
+    (λ t. (head_of t, args_of t)) (λ p. node p.0 p.1) node-parts
 
 module _ {H : Type 0} where
   abbrev split : PatternCell H → H ⊎ (ℕ ⊎ (ℕ × ℕ))
@@ -95,4 +113,6 @@ module _ {H : Type 0} where
 
   -- a pattern's cell is stored as one of its three kinds
   abbrev pub cell_code : Coded H → Coded (PatternCell H)
-  cell_code c = code_by (H ⊎ (ℕ ⊎ (ℕ × ℕ))) (coded⊎ c (coded⊎ coded_ℕ (coded× coded_ℕ coded_ℕ))) split unsplit unsplit-split
+  cell_code c =
+      code_by (H ⊎ (ℕ ⊎ (ℕ × ℕ))) (coded⊎ c (coded⊎ coded_ℕ (coded× coded_ℕ coded_ℕ)))
+      split unsplit unsplit-split

@@ -1,10 +1,12 @@
 -- Which positions a pattern tests, and when a tree, or another pattern, meets it there.
 use Rattle.std.specs.Prelude.{◌≡◌, Some}
 use Rattle.eq_base.specs.Tree.{Tree, Forest, node, empty, grow, head_of, count, Position, subtree_at}
-use Rattle.eq_base.specs.Pattern.{PatternCell, fixed, variable, restricted, Classes, IsTested, IsConstantOf, Clash}
+use Rattle.eq_base.specs.Pattern.{PatternCell, fixed, variable, restricted, Classes, IsTested, IsConstantOf}
+use Rattle.eq_base.specs.Pattern.{Clash}
 
 module _ {H : Type 0} where
-  -- the root of the tree meets that of the pattern: the same head over as many arguments, or a constant of the class
+  -- the root of the tree meets that of the pattern: the same head over as many arguments, or a constant of
+  -- the class
   abbrev pub MeetsRoot : Classes H → Tree (PatternCell H) → Tree H → Type 0
   MeetsRoot in_class (node (fixed g) ps) (node h ts) = (g ≡ h) × (count ps ≡ count ts)
   MeetsRoot in_class (node (variable x) ps) t = Unit {0}
@@ -17,7 +19,8 @@ module _ {H : Type 0} where
     pub tested : IsTested (head_of part)
 
   -- the tree meets the pattern at the position
-  pub record MeetsAt (in_class : Classes H) (p : Tree (PatternCell H)) (t : Tree H) (q : Position) : Type 0 where
+  pub record MeetsAt (in_class : Classes H) (p : Tree (PatternCell H)) (t : Tree H) (q : Position)
+      : Type 0 where
     pub part : Tree (PatternCell H)
     pub subterm : Tree H
     pub part_stands : subtree_at p q ≡ Some part

@@ -1,4 +1,4 @@
--- What the vectors of terms and patterns keep.
+-- Words of private functions and fields alone: what the vectors of terms and patterns keep.
 use Rattle.std.specs.Prelude.{◌≡◌, ℕ, List}
 use Rattle.std.specs.List.{AllByRecursion}
 use Rattle.eq_base.specs.Tree.{Tree, map_heads}

@@ -40,7 +40,8 @@ stored s front = record { taken = s.taken ++ front; room = s.room - length front
 abbrev pub store_failed : Store → Store
 store_failed s = record s { plan = faulted s.plan }
 
--- a sink that fails only where no room is left: the bytes that it took, for how many more it has room, and its fault count
+-- a sink that fails only where no room is left: the bytes that it took, for how many more it has room, and
+-- its fault count
 pub record Vessel : Type 0 where
   pub taken : List ℕ
   pub room : ℕ

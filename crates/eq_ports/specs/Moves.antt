@@ -10,7 +10,8 @@ TakesSome result piece = IfOk result (λ n. 0 < length piece → 0 < n)
 
 -- known bytes grow by a front of these
 abbrev pub AppendsFront : Option (List ℕ) → Option (List ℕ) → List ℕ → Type 0
-AppendsFront old new bytes = (front : List ℕ) × (back : List ℕ) × (front ++ back ≡ bytes) × Appends old new front
+AppendsFront old new bytes =
+    (front : List ℕ) × (back : List ℕ) × (front ++ back ≡ bytes) × Appends old new front
 
 -- the file is there, and all of its bytes are left
 abbrev pub BeginsAt : Option (List ℕ) → Option (List ℕ) → Type 0

@@ -29,7 +29,8 @@ pub trait Files {
     fn choose(&mut self, name: &str) -> Result<(), Failed>
         ensures kept { named self.new ≡ named self.old }
         ensures chosen { IsTrue (is_chosen self.new) ↔ IsOk result }
-        ensures begins { OnOk result (IfSome (named self.old) (λ look_up. BeginsAt (look_up name.now) (rest self.new))) }
+        ensures begins { OnOk result
+            (IfSome (named self.old) (λ look_up. BeginsAt (look_up name.now) (rest self.new))) }
         ensures cause { HasCause (faults self.old) (faults self.new) result };
 
     /// Reads what is left of the chosen file, as a `Source` is read.

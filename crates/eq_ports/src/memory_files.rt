@@ -1,4 +1,6 @@
-ghost use Rattle.std.specs.Prelude.{◌≡◌, ◌≤◌, ◌<◌, ◌↔◌, ◌⊎◌, ℕ, List, length, drop, map, bytes_eq, is_some, IsTrue, IsErr, IsOk, IfOk, IfSome, IfNone, OnOk, OnErr, IsNone, Some, None, vec_items};
+ghost use Rattle.std.specs.Prelude.{◌≡◌, ◌≤◌, ◌<◌, ◌↔◌, ◌⊎◌, ℕ, List, length, drop, map, bytes_eq, is_some};
+ghost use Rattle.std.specs.Prelude.{IsTrue, IsErr, IsOk, IfOk, IfSome, IfNone, OnOk, OnErr, IsNone, Some};
+ghost use Rattle.std.specs.Prelude.{None, vec_items};
 ghost use Rattle.std.specs.List.{IsDistinct};
 ghost use Rattle.std.specs.Io.{ReadsAtMost};
 ghost use Rattle.std.specs.Io.KnownBytes.{ReadConsumes};
@@ -36,7 +38,11 @@ impl Model for MemoryFiles {
 
     ghost use Rattle.eq_ports.specs.Entries.{entries, rest_from, IsPlace};
 
-    ghost view = { λ s. record { files = entries s.list.items; rest = rest_from (entries s.list.items) s.chosen; plan = s.schedule } };
+    ghost view = { λ s. record {
+      files = entries s.list.items;
+      rest = rest_from (entries s.list.items) s.chosen;
+      plan = s.schedule;
+    } };
 
     ghost invariant = { λ s. IsPlace (entries s.list.items) s.chosen };
 }
@@ -48,7 +54,11 @@ impl MemoryFiles {
     pub fn new(list: Vec<(String, Vec<u8>)>, piece: usize, failing: Vec<u64>) -> MemoryFiles
         requires some { 1 ≤ piece }
         requires distinct { IsDistinct bytes_eq (map (λ file. file.0) (entries list.items)) }
-        ensures { result ≡ record { files = entries list.items; rest = None; plan = record { piece = piece; failing = failing.items; calls = 0; faults = 0 } } }
+        ensures { result ≡ record {
+          files = entries list.items;
+          rest = None;
+          plan = record { piece = piece; failing = failing.items; calls = 0; faults = 0 };
+        } }
     {
         MemoryFiles {
             list,
@@ -61,7 +71,8 @@ impl MemoryFiles {
 /// The index of the first file with the name. Time: all names at most.
 fn find_file(list: &[(String, Vec<u8>)], name: &str) -> Option<usize>
     ensures none { IfNone result (look_up (entries list.now) name.now ≡ None) }
-    ensures found { IfSome result (λ i. (i < length list.now) × (look_up (entries list.now) name.now ≡ Some (bytes_at (entries list.now) i))) }
+    ensures found { IfSome result (λ i. (i < length list.now)
+        × (look_up (entries list.now) name.now ≡ Some (bytes_at (entries list.now) i))) }
 {
     for (i, file) in list.iter().enumerate() {
         if file.0.as_str() == name {
@@ -82,7 +93,8 @@ impl Files for MemoryFiles {
 
     fn choose(&mut self, name: &str) -> Result<(), Failed>
         ensures fails { IsErr result ↔ (NextFails self.old.plan ⊎ IsNone (look_up self.old.files name.now)) }
-        ensures goes { OnOk result (IfSome (look_up self.old.files name.now) (λ bytes. self.new ≡ cabinet_at self.old bytes)) }
+        ensures goes { OnOk result
+            (IfSome (look_up self.old.files name.now) (λ bytes. self.new ≡ cabinet_at self.old bytes)) }
         ensures failed { OnErr result (self.new ≡ cabinet_failed self.old None) }
 
         // The trait's clauses.
@@ -107,7 +119,9 @@ impl Files for MemoryFiles {
     // Gives as many bytes as the slice, the number `piece` and the rest allow.
     fn read(&mut self, into: &mut [u8]) -> Result<usize, Failed>
         ensures fails { IsErr result ↔ (NextFails self.old.plan ⊎ IsNone self.old.rest) }
-        ensures gives { IfOk result (λ n. IfSome self.old.rest (λ rest. (n ≡ given_count rest self.old.plan (length into.old)) × (self.new ≡ cabinet_at self.old (drop n rest)))) }
+        ensures gives { IfOk result (λ n. IfSome self.old.rest (λ rest.
+            (n ≡ given_count rest self.old.plan (length into.old))
+            × (self.new ≡ cabinet_at self.old (drop n rest)))) }
         ensures failed { OnErr result (self.new ≡ cabinet_failed self.old self.old.rest) }
 
         // The trait's clauses.

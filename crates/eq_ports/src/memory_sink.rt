@@ -1,4 +1,5 @@
-ghost use Rattle.std.specs.Prelude.{◌≡◌, ◌≤◌, ◌<◌, ◌↔◌, ◌⊎◌, ℕ, [], List, length, take, IsErr, IfOk, OnErr, Some, vec_items, vec_len, vec_capacity};
+ghost use Rattle.std.specs.Prelude.{◌≡◌, ◌≤◌, ◌<◌, ◌↔◌, ◌⊎◌, ℕ, [], List, length, take, IsErr, IfOk, OnErr};
+ghost use Rattle.std.specs.Prelude.{Some, vec_items, vec_len, vec_capacity};
 ghost use Rattle.std.specs.Io.{WritesAtMost};
 ghost use Rattle.std.specs.Io.KnownBytes.{WriteAppends};
 ghost use Rattle.eq_ports.specs.Causes.{HasCause};
@@ -37,7 +38,11 @@ impl MemorySink {
     pub fn new(room: Vec<u8>, piece: usize, failing: Vec<u64>) -> MemorySink
         requires some { 1 ≤ piece }
         requires empty { vec_len room ≡ 0 }
-        ensures { result ≡ record { taken = []; room = vec_capacity room; plan = record { piece = piece; failing = failing.items; calls = 0; faults = 0 } } }
+        ensures { result ≡ record {
+          taken = [];
+          room = vec_capacity room;
+          plan = record { piece = piece; failing = failing.items; calls = 0; faults = 0 };
+        } }
     {
         MemorySink {
             room: room.capacity(),
@@ -61,8 +66,10 @@ impl Sink for MemorySink {
 
     // Takes as many bytes as it is given and as the number `piece` and the room allow.
     fn write(&mut self, piece: &[u8]) -> Result<usize, Failed>
-        ensures fails { IsErr result ↔ (NextFails self.old.plan ⊎ ((0 < length piece.now) × (self.old.room ≡ 0))) }
-        ensures takes { IfOk result (λ n. (n ≡ taken_count self.old piece.now) × (self.new ≡ stored self.old (take n piece.now))) }
+        ensures fails { IsErr result
+            ↔ (NextFails self.old.plan ⊎ ((0 < length piece.now) × (self.old.room ≡ 0))) }
+        ensures takes { IfOk result (λ n. (n ≡ taken_count self.old piece.now)
+            × (self.new ≡ stored self.old (take n piece.now))) }
         ensures failed { OnErr result (self.new ≡ store_failed self.old) }
 
         // The trait's clauses.

@@ -1,4 +1,5 @@
-ghost use Rattle.std.specs.Prelude.{◌≡◌, ◌≤◌, ◌+◌, ◌-◌, ◌++◌, ◌↔◌, ℕ, List, length, take, drop, min, IsErr, IfOk, OnErr, Some, vec_items};
+ghost use Rattle.std.specs.Prelude.{◌≡◌, ◌≤◌, ◌+◌, ◌-◌, ◌++◌, ◌↔◌, ℕ, List, length, take, drop, min, IsErr};
+ghost use Rattle.std.specs.Prelude.{IfOk, OnErr, Some, vec_items};
 ghost use Rattle.std.specs.Io.{ReadsAtMost};
 ghost use Rattle.std.specs.Io.KnownBytes.{ReadConsumes};
 ghost use Rattle.eq_ports.specs.Causes.{HasCause};
@@ -34,7 +35,10 @@ impl MemorySource {
     /// `failing` fail, and no others. The number of a call stops at 2^64 - 1.
     pub fn new(bytes: Vec<u8>, piece: usize, failing: Vec<u64>) -> MemorySource
         requires { 1 ≤ piece }
-        ensures { result ≡ record { left = bytes.items; plan = record { piece = piece; failing = failing.items; calls = 0; faults = 0 } } }
+        ensures { result ≡ record {
+          left = bytes.items;
+          plan = record { piece = piece; failing = failing.items; calls = 0; faults = 0 };
+        } }
     {
         MemorySource {
             bytes,
@@ -64,7 +68,8 @@ impl Source for MemorySource {
     // Gives as many bytes as the slice, the number `piece` and the rest allow.
     fn read(&mut self, into: &mut [u8]) -> Result<usize, Failed>
         ensures fails { IsErr result ↔ NextFails self.old.plan }
-        ensures gives { IfOk result (λ n. (n ≡ given_count self.old.left self.old.plan (length into.old)) × (self.new ≡ supplied self.old n)) }
+        ensures gives { IfOk result (λ n. (n ≡ given_count self.old.left self.old.plan (length into.old))
+            × (self.new ≡ supplied self.old n)) }
         ensures failed { OnErr result (self.new ≡ supply_failed self.old) }
 
         // The trait's clauses.

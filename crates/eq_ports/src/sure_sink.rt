@@ -1,4 +1,5 @@
-ghost use Rattle.std.specs.Prelude.{◌≡◌, ◌≤◌, ◌<◌, ◌-◌, ◌↔◌, [], ℕ, List, length, take, min, IsErr, IfOk, OnErr, Some, vec_items, vec_len, vec_capacity};
+ghost use Rattle.std.specs.Prelude.{◌≡◌, ◌≤◌, ◌<◌, ◌-◌, ◌↔◌, [], ℕ, List, length, take, min, IsErr, IfOk};
+ghost use Rattle.std.specs.Prelude.{OnErr, Some, vec_items, vec_len, vec_capacity};
 ghost use Rattle.std.specs.Io.{WritesAtMost};
 ghost use Rattle.std.specs.Io.KnownBytes.{WriteAppends};
 ghost use Rattle.eq_ports.specs.Causes.{HasCause};
@@ -58,7 +59,8 @@ impl Sink for SureSink {
     // Takes as much of the piece as the room holds.
     fn write(&mut self, piece: &[u8]) -> Result<usize, Failed>
         ensures fails { IsErr result ↔ ((0 < length piece.now) × (self.old.room ≡ 0)) }
-        ensures takes { IfOk result (λ n. (n ≡ min (length piece.now) self.old.room) × (self.new ≡ filled self.old (take n piece.now))) }
+        ensures takes { IfOk result (λ n. (n ≡ min (length piece.now) self.old.room)
+            × (self.new ≡ filled self.old (take n piece.now))) }
         ensures failed { OnErr result (self.new ≡ vessel_failed self.old) }
 
         // The trait's clauses.

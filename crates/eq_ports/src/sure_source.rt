@@ -1,4 +1,5 @@
-ghost use Rattle.std.specs.Prelude.{◌≡◌, ◌≤◌, ◌<◌, ◌++◌, ℕ, List, length, take, drop, min, IsOk, IfOk, Some, vec_items};
+ghost use Rattle.std.specs.Prelude.{◌≡◌, ◌≤◌, ◌<◌, ◌++◌, ℕ, List, length, take, drop, min, IsOk, IfOk, Some};
+ghost use Rattle.std.specs.Prelude.{vec_items};
 ghost use Rattle.std.specs.Io.{ReadsAtMost};
 ghost use Rattle.std.specs.Io.KnownBytes.{ReadConsumes};
 ghost use Rattle.eq_ports.specs.Causes.{HasCause};
@@ -42,7 +43,8 @@ impl Source for SureSource {
     // Gives as many bytes as the slice and the rest allow.
     fn read(&mut self, into: &mut [u8]) -> Result<usize, Failed>
         ensures sure { IsOk result }
-        ensures gives { IfOk result (λ n. (n ≡ min (length into.old) (length self.old)) × (self.new ≡ drop n self.old)) }
+        ensures gives { IfOk result (λ n. (n ≡ min (length into.old) (length self.old))
+            × (self.new ≡ drop n self.old)) }
 
         // The trait's clauses.
         ensures bound { ReadsAtMost result into.new }

@@ -1,5 +1,6 @@
 -- A step at a node, as it is read.
 use Rattle.std.specs.Prelude.{◌≡◌, ℕ, ◌+◌, ◌≤◌, List, [], ◌++◌, length, slice_index_or}
+use Rattle.eq_base.specs.Limits.{most_text_bytes}
 use Rattle.eq_base.specs.Tree.{Tree, nth_subtree, nth_position, replace_at}
 use Rattle.eq_base.specs.Rewriting.{RootStepBy}
 use Rattle.eq_base.specs.ReadHead.{ReadHead, text}
@@ -20,7 +21,7 @@ pub record IsReadStep (old new : Table) (equations : List Equation) (t : Tree He
 -- the heads are strings, short enough together
 abbrev pub AreJoined : Table → Head → Head → Type 0
 AreJoined table (Text m) (Text n) =
-    length (slice_index_or table.texts m []) + length (slice_index_or table.texts n []) ≤ 65535
+    length (slice_index_or table.texts m []) + length (slice_index_or table.texts n []) ≤ most_text_bytes
 AreJoined table one other = ⊥
 
 -- the head is live in the new table, and is read as the one string with the other behind it

@@ -1,6 +1,7 @@
 // The laws of rewriting by a well-formed and orthogonal system of rules, each the contract of a function that
 // does nothing.
-ghost use Rattle.std.specs.Prelude.{◌≡◌, ◌≢◌, ◌⊎◌, ◌↔◌, ℕ, suc, Bool, List, ◌<◌, ◌≤◌, [], Contains, IsTrue, IsFalse};
+ghost use Rattle.std.specs.Prelude.{◌≡◌, ◌≢◌, ◌⊎◌, ◌↔◌, ℕ, suc, Bool, List, ◌<◌, ◌≤◌, [], Contains, IsTrue};
+ghost use Rattle.std.specs.Prelude.{IsFalse};
 ghost use Rattle.eq_base.specs.Tree.{Tree, head_of, Position};
 ghost use Rattle.eq_base.specs.Pattern.{IsInstanceOf};
 ghost use Rattle.eq_base.specs.Testing.{IsTestedAt};
@@ -12,8 +13,10 @@ ghost use Rattle.symbol_table.specs.Table.{Table};
 ghost use Rattle.symbol_table.specs.Reading.{read_system};
 ghost use Rattle.sequentiality.specs.Regular.{AreRegular};
 ghost use Rattle.orthogonal_laws.specs.Orthogonal.{IsLawful};
-ghost use Rattle.orthogonal_laws.specs.Strategy.{IsDemanded, IsDemandedRedex, HasNoDemandedRedex, IsNext, HasNoNext, PlainRun, HasLength, IsOutermost, BudgetAnswers};
-ghost use Rattle.orthogonal_laws.specs.Development.{Development, marks, AreRedexes, DevelopsBy, SharedStep, IsKept};
+ghost use Rattle.orthogonal_laws.specs.Strategy.{IsDemanded, IsDemandedRedex, HasNoDemandedRedex, IsNext};
+ghost use Rattle.orthogonal_laws.specs.Strategy.{HasNoNext, PlainRun, HasLength, IsOutermost, BudgetAnswers};
+ghost use Rattle.orthogonal_laws.specs.Development.{Development, marks, AreRedexes, DevelopsBy, SharedStep};
+ghost use Rattle.orthogonal_laws.specs.Development.{IsKept};
 ghost use Rattle.orthogonal_laws.specs.Convertible.{IsConvertible};
 ghost use Rattle.orthogonal_laws.specs.Addition.{addition};
 ghost use Rattle.orthogonal_laws.specs.Operations.{Values, ReadConstants};

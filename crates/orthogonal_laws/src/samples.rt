@@ -2,7 +2,8 @@
 ghost use Rattle.std.specs.Prelude.{◌≡◌, ◌+◌, ◌≤◌, IsTrue, IfOk, length};
 ghost use Rattle.eq_base.specs.Cells.{kind_of};
 ghost use Rattle.symbol_table.specs.Table.{IsLive};
-ghost use Rattle.symbol_table.specs.Reading.{IsLiveHead, IsLiveTerm, IsLiveCell, IsLivePattern, IsLiveEquation, AreLive};
+ghost use Rattle.symbol_table.specs.Reading.{IsLiveHead, IsLiveTerm, IsLiveCell, IsLivePattern};
+ghost use Rattle.symbol_table.specs.Reading.{IsLiveEquation, AreLive};
 ghost use Rattle.orthogonal_laws.specs.Operations.{AreTruthsKnown};
 
 use crate::next::{Next, plain_next};

@@ -1,5 +1,6 @@
 // Breaks of the restrictions, and lists of them.
-ghost use Rattle.std.specs.Prelude.{◌≡◌, ◌<◌, [], ◌∷◌, ◌++◌, length, OnOk, OnErr, slice_get, Some, ◌↔◌, IsTrue, Contains};
+ghost use Rattle.std.specs.Prelude.{◌≡◌, ◌<◌, [], ◌∷◌, ◌++◌, length, OnOk, OnErr, slice_get, Some, ◌↔◌};
+ghost use Rattle.std.specs.Prelude.{IsTrue, Contains};
 ghost use Rattle.regularity.specs.Listing.{Precedes, IsOrdered, break_at};
 
 use eq_base::NoMemory;

@@ -1,7 +1,9 @@
 // Whether equations are well formed, by a table of the numbers of arguments of symbols.
 ghost use Rattle.std.specs.Prelude.{◌≡◌, ◌↔◌, IsTrue};
 ghost use Rattle.regularity.specs.Arities.{HasArities};
-ghost use Rattle.regularity.specs.WellFormed.{right_size, HasSymbolRoot, IsApplicationOf, AreWellFormed, arity_by, GivesConstantsNone, HasArityBy, IsWellFormedBy, AreWellFormedBy};
+ghost use Rattle.regularity.specs.WellFormed.{right_size, HasSymbolRoot, IsApplicationOf, AreWellFormed};
+ghost use Rattle.regularity.specs.WellFormed.{arity_by, GivesConstantsNone, HasArityBy, IsWellFormedBy};
+ghost use Rattle.regularity.specs.WellFormed.{AreWellFormedBy};
 
 use builtin::is_schema_left;
 use eq_base::{Cell, Equation, Head, Pattern, Right, Rules};

@@ -37,7 +37,11 @@ read_rule table e = map_rule (read_head table) (rule_of e)
 
 -- rewriting by the equations as they are read, with the symbol classes and the values of operations
 abbrev pub read_system : Table → List Equation → System ReadHead
-read_system table equations = record { rules = map (read_rule table) equations; in_class = in_read_class; value_of = value_of }
+read_system table equations = record {
+  rules = map (read_rule table) equations;
+  in_class = in_read_class;
+  value_of = value_of;
+}
 
 -- ---- live numbers
 

@@ -1,5 +1,8 @@
--- What contracts see of a `Symbols`: the declared names, the included classes, and the atoms and texts that have numbers.
-use Rattle.std.specs.Prelude.{◌≡◌, ℕ, ◌+◌, ◌<◌, ◌≤◌, ℤ, pos, List, [], ◌∷◌, ◌++◌, length, slice_get, Some, Contains, codes, ◌⊎◌}
+-- What contracts see of a `Symbols`: the declared names, the included classes, and the atoms and texts that
+-- have numbers.
+use Rattle.std.specs.Prelude.{◌≡◌, ℕ, ◌+◌, ◌<◌, ◌≤◌, ℤ, pos, List, [], ◌∷◌, ◌++◌, length, slice_get, Some}
+use Rattle.std.specs.Prelude.{Contains, codes, ◌⊎◌}
+use Rattle.eq_base.specs.Limits.{most_arguments}
 use Rattle.eq_base.specs.declared.head.Head.{Head}
 use Rattle.eq_base.specs.declared.head.Head.TheVariants.{Symbol, Atom}
 use Rattle.eq_base.specs.declared.meeting.SymbolClass.{SymbolClass}
@@ -37,9 +40,11 @@ truth_values = record { name = codes "true"; arity = 0 } ∷ record { name = cod
 abbrev pub symbols_of : Table → List Declared
 symbols_of table = truth_values ++ table.declared
 
--- the names are listed with this number and this number of arguments; the truth values are known where their class is
+-- the names are listed with this number and this number of arguments; the truth values are known where their
+-- class is
 -- included
-pub record IsListed (declared : List Declared) (included : List SymbolClass) (name : List ℕ) (number arity : ℕ) : Type 0 where
+pub record IsListed (declared : List Declared) (included : List SymbolClass) (name : List ℕ)
+    (number arity : ℕ) : Type 0 where
   pub listed : slice_get (truth_values ++ declared) number ≡ Some (record { name = name; arity = arity })
   pub known : number < 2 → Contains included TruthValues
 
@@ -58,19 +63,21 @@ IsLive table number = (name : List ℕ) × (arity : ℕ) × IsDeclared table nam
 -- no name is declared twice
 abbrev pub HasDistinctNames : Table → Type 0
 HasDistinctNames table =
-    (name : List ℕ) (one other arity another : ℕ) → IsDeclared table name one arity → IsDeclared table name other another
+    (name : List ℕ) (one other arity another : ℕ) → IsDeclared table name one arity
+    → IsDeclared table name other another
     → one ≡ other
 
 -- two numbers are equal where the bytes are
 abbrev pub AreDistinct : List (List ℕ) → Type 0
 AreDistinct list =
-    (bytes : List ℕ) (one other : ℕ) → slice_get list one ≡ Some bytes → slice_get list other ≡ Some bytes → one ≡ other
+    (bytes : List ℕ) (one other : ℕ) → slice_get list one ≡ Some bytes → slice_get list other ≡ Some bytes
+    → one ≡ other
 
 -- a new name went to the end of the table, with this arity and this number
 pub record Declares (old new : Table) (name : List ℕ) (arity : ℤ) (number : ℕ) : Type 0 where
   pub arguments : ℕ
   pub counted : arity ≡ pos arguments
-  pub fits : arguments ≤ 255
+  pub fits : arguments ≤ most_arguments
   pub fresh : ¬ HasName old name
   pub added : new ≡ record old { declared = old.declared ++ record { name = name; arity = arguments } ∷ [] }
   pub numbered : number ≡ 2 + length old.declared
@@ -94,23 +101,28 @@ pub record AddsClass (old new : Table) (name : List ℕ) : Type 0 where
   pub undeclared : class ≡ TruthValues → ¬ HasTruthName old
   pub added : new ≡ record old { included = old.included ++ class ∷ [] }
 
--- the bytes have this number in the new list, which is the old one if they were there, and has them behind it if not
+-- the bytes have this number in the new list, which is the old one if they were there, and has them behind it
+-- if not
 pub record Interns (old new : List (List ℕ)) (bytes : List ℕ) (number : ℕ) : Type 0 where
   pub here : slice_get new number ≡ Some bytes
   pub kept : (new ≡ old) ⊎ ((¬ Contains old bytes) × (new ≡ old ++ bytes ∷ []))
 
 -- the name has this number among the atoms of the new table, all else is as it was
 abbrev pub InternsAtom : Table → Table → List ℕ → ℕ → Type 0
-InternsAtom old new name number = Interns old.atoms new.atoms name number × (new ≡ record old { atoms = new.atoms })
+InternsAtom old new name number =
+    Interns old.atoms new.atoms name number × (new ≡ record old { atoms = new.atoms })
 
 -- the bytes have this number among the texts of the new table, all else is as it was
 abbrev pub InternsText : Table → Table → List ℕ → ℕ → Type 0
-InternsText old new bytes number = Interns old.texts new.texts bytes number × (new ≡ record old { texts = new.texts })
+InternsText old new bytes number =
+    Interns old.texts new.texts bytes number × (new ≡ record old { texts = new.texts })
 
--- what a name with that many arguments stands for: the symbol that is declared so, or an atom where no symbol has the name and atoms are included
+-- what a name with that many arguments stands for: the symbol that is declared so, or an atom where no symbol
+-- has the name and atoms are included
 abbrev pub Resolves : Table → Table → List ℕ → ℕ → Head → Type 0
 Resolves old new name args (Symbol number) = IsDeclared old name number args × (new ≡ old)
-Resolves old new name args (Atom number) = (¬ HasName old name) × (args ≡ 0) × Includes old Atoms × InternsAtom old new name number
+Resolves old new name args (Atom number) =
+    (¬ HasName old name) × (args ≡ 0) × Includes old Atoms × InternsAtom old new name number
 Resolves old new name args head = ⊥
 
 -- each name, atom and text has one number
@@ -123,7 +135,8 @@ pub record HasOneNumberEach (table : Table) : Type 0 where
 abbrev pub IsFront : {A : Type 0} → List A → List A → Type 0
 IsFront {A = A} old new = (more : List A) × (new ≡ old ++ more)
 
--- what is declared and included is as before, and the atoms and texts keep their numbers; others may have joined them
+-- what is declared and included is as before, and the atoms and texts keep their numbers; others may have
+-- joined them
 pub record Keeps (old new : Table) : Type 0 where
   pub declared : new.declared ≡ old.declared
   pub included : new.included ≡ old.included

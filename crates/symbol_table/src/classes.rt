@@ -15,7 +15,8 @@ const STRINGS: &[u8] = b"strings";
 
 /// The class with that name.
 pub fn class_named(name: &[u8]) -> Option<SymbolClass>
-    ensures { MatchOption result ((class : Class) → name.now ≢ class_name class) (λ class. name.now ≡ class_name class) }
+    ensures { MatchOption result ((class : Class) → name.now ≢ class_name class)
+        (λ class. name.now ≡ class_name class) }
 {
     if name == NUMERALS {
         Some(SymbolClass::Numerals)

@@ -1,5 +1,6 @@
 // Byte strings by number.
-ghost use Rattle.std.specs.Prelude.{◌≡◌, ◌↔◌, ℕ, ◌<◌, [], Some, length, take, slice_get, Contains, IsNone, IfOk, OnErr};
+ghost use Rattle.std.specs.Prelude.{◌≡◌, ◌↔◌, ℕ, ◌<◌, [], Some, length, take, slice_get, Contains, IsNone};
+ghost use Rattle.std.specs.Prelude.{IfOk, OnErr};
 ghost use Rattle.symbol_table.specs.Table.{AreDistinct, Interns};
 
 use eq_base::NoMemory;
@@ -47,7 +48,8 @@ impl Interned {
 
     /// The number of the bytes.
     pub fn find(&self, bytes: &[u8]) -> Option<usize>
-        ensures listed { (number : ℕ) → (result ≡ Some number) ↔ (slice_get self.now number ≡ Some bytes.now) }
+        ensures listed { (number : ℕ) → (result ≡ Some number)
+            ↔ (slice_get self.now number ≡ Some bytes.now) }
         ensures none { IsNone result ↔ (¬ Contains self.now bytes.now) }
         ensures distinct { AreDistinct self.now }
     {

@@ -1,10 +1,15 @@
-ghost use Rattle.std.specs.Prelude.{◌≡◌, ◌↔◌, ℕ, ◌+◌, ◌<◌, ◌≤◌, ◌^◌, [], ◌++◌, Some, length, take, slice_get, slice_index_or, IsTrue, IfSome, IsNone, IfOk, OnOk, IfErr, OnErr};
+ghost use Rattle.std.specs.Prelude.{◌≡◌, ◌↔◌, ℕ, ◌+◌, ◌<◌, ◌≤◌, ◌^◌, [], ◌++◌, Some, length, take, slice_get};
+ghost use Rattle.std.specs.Prelude.{slice_index_or, IsTrue, IfSome, IsNone, IfOk, OnOk, IfErr, OnErr};
 ghost use Rattle.eq_base.specs.declared.head.Head.{Head as HeadValue};
 ghost use Rattle.eq_base.specs.declared.meeting.SymbolClass.{SymbolClass as Class};
 ghost use Rattle.eq_base.specs.Meeting.{class_number};
-ghost use Rattle.symbol_table.specs.Table.{no_names, Includes, IsDeclared, HasName, HasTruthName, IsLive, HasOneNumberEach, Declares, AddsClass, InternsAtom, InternsText, Resolves};
+ghost use Rattle.eq_base.specs.Limits.{most_arguments, most_text_bytes};
+ghost use Rattle.symbol_table.specs.Table.{no_names, Includes, IsDeclared, HasName, HasTruthName, IsLive};
+ghost use Rattle.symbol_table.specs.Table.{HasOneNumberEach, Declares, AddsClass, InternsAtom, InternsText};
+ghost use Rattle.symbol_table.specs.Table.{Resolves};
 ghost use Rattle.symbol_table.specs.Reading.{read_head, IsLiveHead};
-ghost use Rattle.symbol_table.specs.Refusing.{IfRefused, RefusesDeclaration, IsTaken, RefusesInclude, RefusesUse};
+ghost use Rattle.symbol_table.specs.Refusing.{IfRefused, RefusesDeclaration, IsTaken, RefusesInclude};
+ghost use Rattle.symbol_table.specs.Refusing.{RefusesUse};
 
 use crate::classes::class_named;
 use crate::error::SymbolError;
@@ -127,7 +132,8 @@ impl Symbols {
 
     /// The number and the arity of a declared name.
     pub fn find(&self, name: &[u8]) -> Option<(u32, u8)>
-        ensures declared { (number arity : ℕ) → (result ≡ Some (number, arity)) ↔ IsDeclared self.now name.now number arity }
+        ensures declared { (number arity : ℕ) → (result ≡ Some (number, arity))
+            ↔ IsDeclared self.now name.now number arity }
         ensures none { IsNone result ↔ (¬ HasName self.now name.now) }
         ensures distinct { HasOneNumberEach self.now }
     {
@@ -155,7 +161,8 @@ impl Symbols {
     /// The number of a truth value whose class is included.
     fn find_truth_value(&self, name: &[u8]) -> Option<u32>
         ensures found { IfSome result (λ number. IsDeclared self.now name.now number 0) }
-        ensures none { IsNone result → (number arity : ℕ) → IsDeclared self.now name.now number arity → 2 ≤ number }
+        ensures none { IsNone result → (number arity : ℕ) → IsDeclared self.now name.now number arity
+            → 2 ≤ number }
     {
         if !self.included(SymbolClass::TruthValues.number()) {
             return None;
@@ -175,7 +182,7 @@ impl Symbols {
     /// no atom; out of memory. An error leaves the table as it was.
     pub fn resolve(&mut self, name: &[u8], args: usize) -> Result<Head, SymbolError>
         ensures ok { IfOk result (Resolves self.old self.new name.now args) }
-        ensures few { IfOk result (λ _. args ≤ 255) }
+        ensures few { IfOk result (λ _. args ≤ most_arguments) }
         ensures refused { IfErr result (IfRefused (RefusesUse self.old name.now args)) }
         ensures err { OnErr result (self.new ≡ self.old) }
         ensures distinct { HasOneNumberEach self.new }
@@ -216,8 +223,10 @@ impl Symbols {
     pub fn intern_joined(&mut self, one: usize, other: usize) -> Result<usize, NoMemory>
         requires one { one < length self.old.texts }
         requires other { other < length self.old.texts }
-        requires short { length (slice_index_or self.old.texts one []) + length (slice_index_or self.old.texts other []) ≤ 65535 }
-        ensures ok { IfOk result (InternsText self.old self.new (slice_index_or self.old.texts one [] ++ slice_index_or self.old.texts other [])) }
+        requires short { length (slice_index_or self.old.texts one [])
+            + length (slice_index_or self.old.texts other []) ≤ most_text_bytes }
+        ensures ok { IfOk result (InternsText self.old self.new
+            (slice_index_or self.old.texts one [] ++ slice_index_or self.old.texts other [])) }
         ensures err { OnErr result (self.new ≡ self.old) }
         ensures distinct { HasOneNumberEach self.new }
     {
@@ -282,7 +291,10 @@ impl Symbols {
     pub fn cut_to(&mut self, mark: Mark)
         requires atoms { mark.atoms ≤ length self.old.atoms }
         requires texts { mark.texts ≤ length self.old.texts }
-        ensures { self.new ≡ record self.old { atoms = take mark.atoms self.old.atoms; texts = take mark.texts self.old.texts } }
+        ensures { self.new ≡ record self.old {
+          atoms = take mark.atoms self.old.atoms;
+          texts = take mark.texts self.old.texts;
+        } }
     {
         self.atoms.truncate(mark.atoms);
         self.texts.truncate(mark.texts);

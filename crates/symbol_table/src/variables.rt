@@ -1,4 +1,5 @@
-ghost use Rattle.std.specs.Prelude.{◌≡◌, ◌↔◌, ℕ, ◌<◌, ◌^◌, [], Some, length, slice_get, Contains, IsNone, OnOk, IfErr, OnErr};
+ghost use Rattle.std.specs.Prelude.{◌≡◌, ◌↔◌, ℕ, ◌<◌, ◌^◌, [], Some, length, slice_get, Contains, IsNone};
+ghost use Rattle.std.specs.Prelude.{OnOk, IfErr, OnErr};
 ghost use Rattle.symbol_table.specs.Refusing.{IfRefused, RefusesVariable};
 ghost use Rattle.symbol_table.specs.Table.{AreDistinct};
 ghost use Rattle.symbol_table.specs.Variables.{AddsVariable};

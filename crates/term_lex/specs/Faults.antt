@@ -1,7 +1,15 @@
 -- The faults by their numbers and their names.
 use Rattle.std.specs.Prelude.{ℕ, List, codes}
 use Rattle.term_lex.specs.declared.fault.FaultKind.{FaultKind}
-use Rattle.term_lex.specs.declared.fault.FaultKind.TheVariants.{BadByte, OpenString, BadEscape, NumeralPast, NameLong, StringLong, Expected, Unended, DotPlace, ListNeedsCons, TermLong, Twice, ArityPast, UnknownClass, Unknown, WrongArity, NotIncluded, FileLong, EquationsPast, UnknownEquationClass, LeftNotApplication, VariableTwice, QualifiedUnknown, SideLong, SchemaNeeds, QualifiedTwice, ExpansionPast, QualifierCircle, NotYet}
+use Rattle.term_lex.specs.declared.fault.FaultKind.TheVariants.{BadByte, OpenString, BadEscape, NumeralPast}
+use Rattle.term_lex.specs.declared.fault.FaultKind.TheVariants.{NameLong, StringLong, Expected, Unended}
+use Rattle.term_lex.specs.declared.fault.FaultKind.TheVariants.{DotPlace, ListNeedsCons, TermLong, Twice}
+use Rattle.term_lex.specs.declared.fault.FaultKind.TheVariants.{ArityPast, UnknownClass, Unknown, WrongArity}
+use Rattle.term_lex.specs.declared.fault.FaultKind.TheVariants.{NotIncluded, FileLong, EquationsPast}
+use Rattle.term_lex.specs.declared.fault.FaultKind.TheVariants.{UnknownEquationClass, LeftNotApplication}
+use Rattle.term_lex.specs.declared.fault.FaultKind.TheVariants.{VariableTwice, QualifiedUnknown, SideLong}
+use Rattle.term_lex.specs.declared.fault.FaultKind.TheVariants.{SchemaNeeds, QualifiedTwice, ExpansionPast}
+use Rattle.term_lex.specs.declared.fault.FaultKind.TheVariants.{QualifierCircle, NotYet}
 
 -- the number of a fault
 abbrev pub fault_number : FaultKind → ℕ

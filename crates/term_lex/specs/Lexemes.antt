@@ -32,27 +32,36 @@ abbrev pub IsViable : (List Lexeme → Type 0) → List Lexeme → Type 0
 IsViable IsSentence lexemes = (more : List Lexeme) × IsSentence (lexemes ++ more)
 
 -- the text from `at` to `end` is a sentence, which takes as many lexemes as it can
-pub record Reads (IsSentence : List Lexeme → Type 0) (text : List ℕ) (at : ℕ) (lexemes : List Lexeme) (end : ℕ) : Type 0 where
+pub record Reads (IsSentence : List Lexeme → Type 0) (text : List ℕ) (at : ℕ) (lexemes : List Lexeme)
+    (end : ℕ) : Type 0 where
   pub scanned : Scans text at lexemes end
   pub sentence : IsSentence lexemes
-  pub longest : (next : Lexeme) → FirstLexeme text end (Ok next) → ¬ (IsViable IsSentence (lexemes ++ next ∷ []))
+  pub longest : (next : Lexeme) → FirstLexeme text end (Ok next)
+      → ¬ (IsViable IsSentence (lexemes ++ next ∷ []))
 
--- The first fault from `at` on: sentences begin with the lexemes before it, which are none yet, and the next token is bad or no sentence begins with it too.
+-- The first fault from `at` on: sentences begin with the lexemes before it, which are none yet, and the next
+-- token is bad or no sentence begins with it too.
 -- Misplaced says which fault a lexeme is that cannot stand behind those before it.
-pub record IsFirstFault (Misplaced : List Lexeme → Lexeme → Fault → Type 0) (IsSentence : List Lexeme → Type 0) (text : List ℕ) (at : ℕ) (fault : Fault) : Type 0 where
+pub record IsFirstFault (Misplaced : List Lexeme → Lexeme → Fault → Type 0)
+    (IsSentence : List Lexeme → Type 0) (text : List ℕ) (at : ℕ) (fault : Fault) : Type 0 where
   pub lexemes : List Lexeme
   pub end : ℕ
   pub scanned : Scans text at lexemes end
   pub viable : IsViable IsSentence lexemes
   pub unfinished : ¬ (IsSentence lexemes)
-  pub here : FirstLexeme text end (Err fault) ⊎ ((next : Lexeme) × FirstLexeme text end (Ok next) × (IsViable IsSentence (lexemes ++ next ∷ []) → ⊥) × Misplaced lexemes next fault)
+  pub here : FirstLexeme text end (Err fault)
+      ⊎ ((next : Lexeme) × FirstLexeme text end (Ok next) × (IsViable IsSentence (lexemes ++ next ∷ []) → ⊥)
+      × Misplaced lexemes next fault)
 
 -- the answer of a reader: where the sentence ends, or the first fault
-abbrev pub IsAnswerBy : (List Lexeme → Lexeme → Fault → Type 0) → (List Lexeme → Type 0) → List ℕ → ℕ → Result ℕ Fault → Type 0
-IsAnswerBy Misplaced IsSentence text at (Ok end) = (lexemes : List Lexeme) × Reads IsSentence text at lexemes end
+abbrev pub IsAnswerBy : (List Lexeme → Lexeme → Fault → Type 0) → (List Lexeme → Type 0)
+    → List ℕ → ℕ → Result ℕ Fault → Type 0
+IsAnswerBy Misplaced IsSentence text at (Ok end) =
+    (lexemes : List Lexeme) × Reads IsSentence text at lexemes end
 IsAnswerBy Misplaced IsSentence text at (Err fault) = IsFirstFault Misplaced IsSentence text at fault
 
--- the fault of a token that cannot stand in its place: the end of the text is Unended, every other token Expected
+-- the fault of a token that cannot stand in its place: the end of the text is Unended, every other token
+-- Expected
 abbrev pub misplaced_kind : TokenKind → FaultKind
 misplaced_kind End = Unended
 misplaced_kind kind = Expected kind

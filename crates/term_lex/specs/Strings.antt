@@ -3,7 +3,8 @@ use Rattle.std.specs.Prelude.{◌≡◌, ℕ, true, ◌==◌, List, [], ◌∷�
 use Rattle.std.specs.List.{AllByRecursion}
 use Rattle.term_lex.specs.Bytes.{is_text_byte}
 
--- how a byte is written: " and \\ behind a backslash, newline and tab as \n and \t, every other byte as itself
+-- how a byte is written: " and \\ behind a backslash, newline and tab as \n and \t, every other byte as
+-- itself
 abbrev pub written : ℕ → List ℕ
 written b =
     if b == 34 then 92 ∷ 34 ∷ []

@@ -1,5 +1,7 @@
 -- The first token of a text.
-use Rattle.std.specs.Prelude.{◌≡◌, ℕ, ◌+◌, ◌^◌, Bool, true, false, ◌==◌, List, [], ◌∷◌, ◌++◌, length, take, drop, slice_index_or, Option, Some, None, Result, Ok, Err, nat_lt, if◌then◌else◌, ◌<◌, ◌≤◌, ◌⊎◌}
+use Rattle.std.specs.Prelude.{◌≡◌, ℕ, ◌+◌, ◌^◌, Bool, true, false, ◌==◌, List, [], ◌∷◌, ◌++◌, length, take}
+use Rattle.std.specs.Prelude.{drop, slice_index_or, Option, Some, None, Result, Ok, Err, nat_lt}
+use Rattle.std.specs.Prelude.{if◌then◌else◌, ◌<◌, ◌≤◌, ◌⊎◌}
 use Rattle.std.specs.List.{prefix_len}
 use Rattle.std.specs.Char.{is_ascii_digit}
 use Rattle.std.specs.Str.Parse.{digits_value}
@@ -8,7 +10,8 @@ use Rattle.term_lex.specs.declared.token.TokenKind.{TokenKind}
 use Rattle.term_lex.specs.declared.token.TokenKind.TheVariants.{Name, Numeral, Text, End}
 use Rattle.term_lex.specs.declared.fault.Fault.{Fault}
 use Rattle.term_lex.specs.declared.fault.FaultKind.{FaultKind}
-use Rattle.term_lex.specs.declared.fault.FaultKind.TheVariants.{BadByte, OpenString, BadEscape, NumeralPast, NameLong, StringLong}
+use Rattle.term_lex.specs.declared.fault.FaultKind.TheVariants.{BadByte, OpenString, BadEscape, NumeralPast}
+use Rattle.term_lex.specs.declared.fault.FaultKind.TheVariants.{NameLong, StringLong}
 use Rattle.term_lex.specs.Bytes.{is_name_start, is_name_byte, is_plain, is_escape, sign_of}
 use Rattle.term_lex.specs.Gaps.{IsGap}
 use Rattle.term_lex.specs.Strings.{spelled, AreTextBytes}
@@ -41,7 +44,8 @@ is_in_range negative size = nat_lt size (if negative then 2 ^ 127 + 1 else 2 ^ 1
 abbrev pub numeral_of : Bool → ℕ → ℕ → List ℕ → Result Token Fault
 numeral_of negative from sign_len bytes =
     let len = prefix_len is_ascii_digit bytes in
-    if is_in_range negative (digits_value 10 (take len bytes)) then token Numeral from (sign_len + len) else fault NumeralPast from
+    if is_in_range negative (digits_value 10 (take len bytes))
+    then token Numeral from (sign_len + len) else fault NumeralPast from
 
 -- `-` is no token of its own
 abbrev pub minus_of : ℕ → List ℕ → Result Token Fault
@@ -70,7 +74,8 @@ escape_end from len (b ∷ bs) =
     else (if b == 10 then Some (fault OpenString from)
     else Some (fault BadEscape (from + len)))
 
--- what the string from `from` on comes to, `len` bytes behind its first, if none of its elements begins these bytes
+-- what the string from `from` on comes to, `len` bytes behind its first, if none of its elements begins these
+-- bytes
 abbrev pub string_end : ℕ → ℕ → List ℕ → Option (Result Token Fault)
 string_end from len [] = Some (fault OpenString from)
 string_end from len (b ∷ bs) =
@@ -80,7 +85,8 @@ string_end from len (b ∷ bs) =
     else (if is_plain b then None
     else Some (fault BadByte (from + len)))))
 
--- a quote, then elements for the bytes of a value; the 65,536th is one too many, else the string ends where no other element follows
+-- a quote, then elements for the bytes of a value; the 65,536th is one too many, else the string ends where
+-- no other element follows
 pub record BeginsString (from : ℕ) (bytes : List ℕ) (answer : Result Token Fault) : Type 0 where
   pub value : List ℕ
   pub rest : List ℕ
@@ -96,7 +102,8 @@ IsQuoted bytes = (bs : List ℕ) × (bytes ≡ 34 ∷ bs)
 
 -- what the bytes, which stand at `from`, begin with: a string or another token, or the fault of one
 abbrev pub Begins : ℕ → List ℕ → Result Token Fault → Type 0
-Begins from bytes answer = BeginsString from bytes answer ⊎ ((¬ IsQuoted bytes) × (answer ≡ plain_token from bytes))
+Begins from bytes answer =
+    BeginsString from bytes answer ⊎ ((¬ IsQuoted bytes) × (answer ≡ plain_token from bytes))
 
 -- the first token of a text from `at` on, or its fault, behind blanks and comments
 pub record FirstToken (text : List ℕ) (at : ℕ) (answer : Result Token Fault) : Type 0 where

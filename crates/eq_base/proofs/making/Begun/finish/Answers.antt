@@ -1,5 +1,4 @@
 use Rattle.std.proofs.Common.{◌≡◌, ap, ◌∙◌, subst, sym}
-use Rattle.std.specs.Vec.{with_items}
 use Rattle.std.proofs.lemmas.List.{with_items_is}
 use Rattle.eq_base.specs.Preorder.{labels, tree_of, IsPreorder}
 use Rattle.eq_base.specs.Building.{missing_of}

@@ -1,4 +1,4 @@
-use Rattle.std.proofs.Common.{◌≡◌, ap, ◌∙◌, sym, subst, map}
+use Rattle.std.proofs.Common.{ap, ◌∙◌, sym, subst, map}
 use Rattle.eq_base.specs.Building.{missing_of}
 use Rattle.eq_base.specs.Cells.{with_arity, tree_cell}
 use Rattle.eq_base.specs.Kinds.{cell_of}
