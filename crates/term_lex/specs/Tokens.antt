@@ -5,6 +5,7 @@ use Rattle.std.specs.Prelude.{if◌then◌else◌, ◌<◌, ◌≤◌, ◌⊎◌
 use Rattle.std.specs.List.{prefix_len}
 use Rattle.std.specs.Char.{is_ascii_digit}
 use Rattle.std.specs.Str.Parse.{digits_value}
+use Rattle.eq_base.specs.Limits.{most_text_bytes}
 use Rattle.term_lex.specs.declared.token.Token.{Token}
 use Rattle.term_lex.specs.declared.token.TokenKind.{TokenKind}
 use Rattle.term_lex.specs.declared.token.TokenKind.TheVariants.{Name, Numeral, Text, End}
@@ -24,17 +25,21 @@ token kind from len = Ok (record { kind = kind; from = from; to = from + len })
 abbrev pub fault : FaultKind → ℕ → Result Token Fault
 fault kind byte = Err (record { kind = kind; byte = byte })
 
--- the bytes are a name: a letter or `_`, then letters, digits and `_`, at most 255 of them
+-- the most bytes of a name
+abbrev pub most_name_bytes : ℕ
+most_name_bytes = 255
+
+-- the bytes are a name: a letter or `_`, then letters, digits and `_`, not too many of them
 pub record IsName (bytes : List ℕ) : Type 0 where
   pub starts : is_name_start (slice_index_or bytes 0 0) ≡ true
   pub goes_on : prefix_len is_name_byte bytes ≡ length bytes
-  pub fits : length bytes ≤ 255
+  pub fits : length bytes ≤ most_name_bytes
 
--- a name takes as many bytes as it can, and may have 255
+-- a name takes as many bytes as it can, and may have no more than the limit
 abbrev pub name_of : ℕ → List ℕ → Result Token Fault
 name_of from bytes =
     let len = prefix_len is_name_byte bytes in
-    if nat_lt 255 len then fault NameLong from else token Name from len
+    if nat_lt most_name_bytes len then fault NameLong from else token Name from len
 
 -- the numbers from -2^127 to 2^127 - 1, by their sign and size
 abbrev pub is_in_range : Bool → ℕ → Bool
@@ -93,8 +98,8 @@ pub record BeginsString (from : ℕ) (bytes : List ℕ) (answer : Result Token F
   pub quoted : bytes ≡ 34 ∷ (spelled value ++ rest)
   pub holds : AreTextBytes value
   pub ends :
-      ((length value ≡ 65536) × (answer ≡ fault StringLong from))
-      ⊎ ((length value ≤ 65535) × (string_end from (1 + length (spelled value)) rest ≡ Some answer))
+      ((length value ≡ most_text_bytes + 1) × (answer ≡ fault StringLong from))
+      ⊎ ((length value ≤ most_text_bytes) × (string_end from (1 + length (spelled value)) rest ≡ Some answer))
 
 -- the first byte is a quote
 abbrev pub IsQuoted : List ℕ → Type 0

@@ -1,6 +1,7 @@
 -- The terms that are read again as they were printed.
 use Rattle.std.specs.Prelude.{◌≡◌, ℕ, ◌+◌, ◌≤◌, ◌^◌, List, ◌++◌, length, drop, codes, pos, neg_ℤ, ◌<ℤ◌, ◌≤ℤ◌}
 use Rattle.std.specs.List.{AllByRecursion}
+use Rattle.eq_base.specs.Limits.{most_text_bytes}
 use Rattle.eq_base.specs.Tree.{Tree, cells}
 use Rattle.eq_base.specs.ReadHead.{ReadHead, symbol, numeral, atom, text}
 use Rattle.eq_base.specs.declared.meeting.SymbolClass.TheVariants.{Numerals, Atoms, Strings}
@@ -20,7 +21,7 @@ IsReadable table (atom name) args =
 IsReadable table (numeral value) args =
     (args ≡ 0) × Includes table Numerals × (neg_ℤ (pos (2 ^ 127)) ≤ℤ value) × (value <ℤ pos (2 ^ 127))
 IsReadable table (text value) args =
-    (args ≡ 0) × Includes table Strings × AreTextBytes value × (length value ≤ 65535)
+    (args ≡ 0) × Includes table Strings × AreTextBytes value × (length value ≤ most_text_bytes)
 
 -- each head of the term is such
 abbrev pub IsReadableTerm : Table → Tree ReadHead → Type 0
