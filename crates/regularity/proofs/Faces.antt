@@ -4,6 +4,7 @@ use Rattle.std.specs.Prelude.{Contains}
 use Rattle.std.proofs.lemmas.List.Elements.{Contains-append_left, Contains-append_right, Contains-append_cases}
 use Rattle.eq_base.specs.Tree.{Tree, Forest, node, empty, grow, head_of, args_of, count, size, total_size, Position, subtree_at, subtree_in, number, number_in, IsBefore}
 use Rattle.eq_base.specs.Storing.{join}
+use Rattle.eq_base.proofs.Numbers.{number_below}
 
 pub contains_first : {X : Type 0} (x : X) (xs : List X) → Contains (x ∷ xs) x
 contains_first x xs = (0, omega arith, refl)
@@ -104,16 +105,6 @@ module _ {A : Type 0} where
 -- ---- preorder
 
 module _ {A : Type 0} where
-  mutual
-    number_below : (t : Tree A) (q : Position) (s : Tree A) → subtree_at t q ≡ Some s → number t q < size t
-    number_below (node a us) [] s e = omega arith
-    number_below (node a us) (i ∷ q) s e = omega (arith, number_in_below us i q s e)
-
-    number_in_below : (ts : Forest A) (i : ℕ) (q : Position) (s : Tree A) → subtree_in ts i q ≡ Some s → number_in ts i q < total_size ts
-    number_in_below empty i q s e = absurd (cc)
-    number_in_below (grow t ts) zero q s e = omega (arith, number_below t q s e)
-    number_in_below (grow t ts) (suc i) q s e = omega (arith, number_in_below ts i q s e)
-
   mutual
     -- a position before another has a smaller number
     pub number_before : (t : Tree A) (p q : Position) (s : Tree A) → subtree_at t p ≡ Some s → IsBefore p q → number t p < number t q

@@ -15,7 +15,8 @@ use Rattle.regularity.specs.Arities.{HasArities, HaveArities, AgreeOnArities}
 use Rattle.regularity.specs.Common.{HaveCommon}
 use Rattle.regularity.specs.Facing.{DoClash}
 use Rattle.regularity.specs.Occurrences.{variable_of, OccursAt, Repeats, IsUnbound}
-use Rattle.regularity.specs.Merge.{merge, merge_all, merged, named, all_named, cell_over, fill, IsOverLeft}
+use Rattle.regularity.specs.Merge.{merge, merge_all, merged, named, all_named, cell_over, fill}
+use Rattle.regularity.specs.MergedParts.{IsOverLeft}
 use Rattle.std.proofs.lemmas.List.Elements.{Contains-append_right, Contains-append_cases}
 use Rattle.regularity.proofs.Faces.{contains_first, contains_here}
 use Rattle.regularity.proofs.Clashes.{clash_at}

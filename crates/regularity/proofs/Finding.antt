@@ -15,7 +15,8 @@ use Rattle.std.proofs.lemmas.Bool.{cases_lt}
 use Rattle.eq_base.proofs.Trees.{end_within, nth_subtree-nth_subtree}
 use Rattle.regularity.specs.Arities.{HasArities, HaveArities}
 use Rattle.regularity.specs.Occurrences.{variable_of, OccursAt}
-use Rattle.regularity.specs.Merge.{merge, merged, named, fill, CanMerge, IsPartOf}
+use Rattle.regularity.specs.Merge.{merge, merged, named, fill}
+use Rattle.regularity.specs.MergedParts.{CanMerge, IsPartOf}
 use Rattle.regularity.specs.Facing.{DoClash, IsSameHead}
 use Rattle.regularity.proofs.Facings.{HasVariable}
 use Rattle.regularity.proofs.Scan.{IsScanned, scan_start, scan_here, scan_down, scan_past, same_heads_same_counts}
@@ -266,6 +267,3 @@ other_variable o v e same =
     let again : false ≡ option_eq nat_eq (Some v) (Some v) = subst (λ q. false ≡ option_eq nat_eq q (Some v)) same e in
     let equal = eq-eqb v v refl in
     cc
-
-pub some_size : {A : Type 0} (t : Tree A) → 0 < size t
-some_size (node a args) = omega arith

@@ -11,7 +11,8 @@ use Rattle.eq_base.specs.declared.head.Cell as cells
 use Rattle.eq_base.specs.declared.head.Cell.TheVariants as cell
 use Rattle.eq_base.proofs.Scans.{forest_from, forest_from-start, forest_from-node, forest_from-args, forest_from-end}
 use Rattle.eq_base.proofs.Trees.{end_within, nth_subtree-nth_subtree}
-use Rattle.regularity.specs.Merge.{merge, merge_all, named, all_named, cell_over, fill, named_cell}
+use Rattle.regularity.specs.Merge.{merge, merge_all, named, all_named, cell_over, fill}
+use Rattle.regularity.specs.MergedParts.{named_cell}
 
 module _ {A : Type 0} where
   -- the first tree has this head over so many arguments, and these trees come next, its arguments first

@@ -6,7 +6,8 @@ use Rattle.std.proofs.lemmas.Option.{slice_get_within, get_or_from_slice_get, sl
 use Rattle.std.specs.List.{AllByRecursion}
 use Rattle.std.proofs.lemmas.List.Elements.{Contains-append_left, Contains-append_right, Contains-append_cases, Contains-push}
 use Rattle.eq_base.proofs.Lists.{all_push, all_at, all_both}
-use Rattle.regularity.specs.Listing.{Precedes, IsOrdered, Lists, break_at, ListsBefore}
+use Rattle.regularity.specs.Listing.{Precedes, IsOrdered, Lists, break_at}
+use Rattle.regularity.specs.Looking.{ListsBefore}
 use Rattle.regularity.specs.declared.breaks.Break.{Break}
 use Rattle.regularity.proofs.Faces.{contains_here}
 

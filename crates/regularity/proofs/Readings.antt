@@ -10,7 +10,8 @@ use Rattle.eq_base.specs.declared.head.Cell.TheVariants as cell
 use Rattle.eq_base.proofs.Scans.{forest_from, forest_from-start, forest_from-end}
 use Rattle.eq_base.proofs.Trees.{end_within, nth_subtree-nth_subtree}
 use Rattle.regularity.specs.Occurrences.{variable_of}
-use Rattle.regularity.specs.Merge.{merged, named, fill, named_cell, CanMerge}
+use Rattle.regularity.specs.Merge.{merged, named, fill}
+use Rattle.regularity.specs.MergedParts.{named_cell, CanMerge}
 use Rattle.regularity.proofs.Merging.{OpensTo, fill_from, fill_passes, fill_opens, named_from, named_passes, named_opens, open_both, pass_both, heads_same, firsts_same, only_tree, pair_same, left_there, some_left, count_passed, count_opened, no_trees}
 use Rattle.regularity.proofs.Finding.{fill-variable, head_of_root}
 

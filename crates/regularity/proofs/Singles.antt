@@ -16,7 +16,8 @@ use Rattle.regularity.specs.Restrictions.{HasUnbound}
 use Rattle.regularity.specs.Single.{IsSingle}
 use Rattle.regularity.specs.WellFormed.{right_size, IsWellFormed, AreWellFormed}
 use Rattle.regularity.specs.Violations.{IsRepeated, IsUnboundBreak, IsOfOne}
-use Rattle.regularity.specs.Listing.{Precedes, Lists, break_at, ListsBefore}
+use Rattle.regularity.specs.Listing.{Precedes, Lists, break_at}
+use Rattle.regularity.specs.Looking.{ListsBefore}
 use Rattle.regularity.specs.declared.breaks.Break.{Break}
 use Rattle.regularity.proofs.Order.{lists_same, lists_moved, lists_found, lists_missed}
 

@@ -16,7 +16,8 @@ use Rattle.eq_base.specs.declared.head.Cell.{Cell}
 use Rattle.eq_base.proofs.Lists.{all_front, all_back}
 use Rattle.eq_base.proofs.Trees.{length-subtrees}
 use Rattle.regularity.specs.Arities.{HasArities, HaveArities}
-use Rattle.regularity.specs.WellFormed.{arity_by, GivesConstantsNone, HasArityBy, IsWellFormedBy}
+use Rattle.regularity.specs.WellFormed.{arity_by, GivesConstantsNone, IsWellFormedBy}
+use Rattle.regularity.specs.Looking.{HasArityBy}
 use Rattle.regularity.proofs.Listed.{part_has_arities}
 
 -- what holds by numbers holds of each element

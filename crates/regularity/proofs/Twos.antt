@@ -7,10 +7,10 @@ use Rattle.eq_base.specs.Meeting.{in_symbol_class}
 use Rattle.eq_base.specs.declared.rules.Equation.{Equation}
 use Rattle.regularity.specs.Common.{HaveCommon}
 use Rattle.regularity.specs.Single.{IsSingle, TellSingles}
-use Rattle.regularity.specs.WellFormed.{IsPlaceOf}
+use Rattle.regularity.specs.Looking.{IsPlaceOf, ListsBefore}
 use Rattle.regularity.specs.Occurrences.{IsTestedPlace}
 use Rattle.regularity.specs.Violations.{AreAmbiguous, IsAmbiguous, IsOverlap, IsOfTwo}
-use Rattle.regularity.specs.Listing.{Lists, break_at, ListsBefore}
+use Rattle.regularity.specs.Listing.{Lists, break_at}
 use Rattle.regularity.specs.declared.breaks.Break.{Break}
 use Rattle.regularity.proofs.Order.{lists_from, lists_next_place, lists_next_first, lists_next_restriction, lists_end}
 

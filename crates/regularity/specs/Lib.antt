@@ -3,9 +3,11 @@ pub mod Facing
 pub mod Common
 pub mod Occurrences
 pub mod Merge
+pub mod MergedParts
 pub mod Restrictions
 pub mod Single
 pub mod Violations
 pub mod Listing
 pub mod WellFormed
+pub mod Looking
 pub mod Shared

@@ -25,7 +25,3 @@ pub record Lists (P : Break → Type 0) (breaks : List Break) : Type 0 where
 -- the break of a restriction, by these equations, at this place
 abbrev pub break_at : (restriction first place second : ℕ) → Break
 break_at r f p s = record { restriction = r; first = f; place = p; second = s }
-
--- the list of the breaks with the property that come before this one
-abbrev pub ListsBefore : (Break → Type 0) → (restriction first place second : ℕ) → List Break → Type 0
-ListsBefore P r f p s breaks = Lists (λ b. P b × Precedes b (break_at r f p s)) breaks

@@ -1,15 +1,7 @@
 -- Two patterns merged, and patterns read under the merge.
-use Rattle.std.specs.Prelude.{◌≡◌, ◌↔◌, ℕ, suc, ◌+◌, ◌≤◌, Bool, IsTrue}
-use Rattle.eq_base.specs.Tree.{Tree, Forest, node, empty, grow, size, map_heads, nth_subtree}
+use Rattle.std.specs.Prelude.{◌≡◌, ℕ, suc, ◌+◌}
+use Rattle.eq_base.specs.Tree.{Tree, Forest, node, empty, grow, size, map_heads}
 use Rattle.eq_base.specs.Pattern.{PatternCell, fixed, variable, restricted, Substitution, apply}
-use Rattle.eq_base.specs.Meeting.{in_symbol_class}
-use Rattle.eq_base.specs.declared.head.Head.{Head}
-use Rattle.eq_base.specs.declared.head.Cell as cells
-use Rattle.eq_base.specs.declared.head.Cell.TheVariants as cell
-use Rattle.regularity.specs.Arities.{AgreeOnArities}
-use Rattle.regularity.specs.Common.{HaveCommon}
-use Rattle.regularity.specs.Occurrences.{OccursAt}
-use Rattle.regularity.specs.declared.merge.MergedPart.{MergedPart}
 
 module _ {H : Type 0} where
   -- two patterns merged: at each position a head before a class, and a tested cell before a variable
@@ -57,42 +49,3 @@ module _ {H : Type 0} where
     pub one_merged : fill of_one p ≡ merged p r
     pub other_merged : fill of_other r ≡ merged r p
     pub same : fill of_one s ≡ fill of_other t
-
--- ---- parts of the merge, as they are found
-
--- the part of the merged pattern that a variable of one pattern stands for: a part of the other one, its first cell with this name
-abbrev pub part_of_merge : Tree (PatternCell Head) → MergedPart → Tree (PatternCell Head)
-part_of_merge other part = named part.name (nth_subtree other part.at)
-
--- the pattern's variables are among those of the left side
-abbrev pub IsOverLeft : (left right : Tree (PatternCell Head)) → Type 0
-IsOverLeft left right = (at x : ℕ) → OccursAt right at x → (k : ℕ) × OccursAt left k x
-
--- the part of the merge that the variable stands for
-abbrev pub IsPartOf : (left other : Tree (PatternCell Head)) → ℕ → MergedPart → Type 0
-IsPartOf left other x part = (θ : Substitution (PatternCell Head)) → fill θ left ≡ merged left other
-    → θ x ≡ part_of_merge other part
-
--- the answer tells whether the right side reads as the part, under the merge
-abbrev pub ReadsAs : (left other right : Tree (PatternCell Head)) → Tree (PatternCell Head) → Bool → Type 0
-ReadsAs left other right part answer = (θ : Substitution (PatternCell Head)) → fill θ left ≡ merged left other
-    → IsTrue answer ↔ (fill θ right ≡ part)
-
--- the answer tells whether right sides read the same, under the merge
-abbrev pub ReadsSame : (left right other other_right : Tree (PatternCell Head)) → Bool → Type 0
-ReadsSame left right other other_right answer =
-    (θ η : Substitution (PatternCell Head)) → fill θ left ≡ merged left other
-    → fill η other ≡ merged other left → IsTrue answer ↔ (fill θ right ≡ fill η other_right)
-
--- a cell with its number of arguments, where a variable has this name
-abbrev pub named_cell : ℕ → cells.Cell → PatternCell Head × ℕ
-named_cell n (cell.Head h arity) = (fixed h, arity)
-named_cell n (cell.Var x) = (variable n, 0)
-named_cell n (cell.Class x class) = (variable n, 0)
-
--- the two patterns can be merged: they are small, agree on arguments, and have a common instance
-pub record CanMerge (left other : Tree (PatternCell Head)) : Type 0 where
-  pub left_size : size left ≤ 255
-  pub other_size : size other ≤ 255
-  pub arities : AgreeOnArities left other
-  pub common : HaveCommon in_symbol_class left other

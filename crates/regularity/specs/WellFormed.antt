@@ -1,13 +1,12 @@
 -- What the checks ask of a list of equations.
-use Rattle.std.specs.Prelude.{◌≡◌, ℕ, ◌<◌, ◌≤◌, List, length, Some, IsTrue, All, slice_get, slice_index_or}
+use Rattle.std.specs.Prelude.{◌≡◌, ℕ, ◌≤◌, List, length, IsTrue, All, slice_index_or}
+use Rattle.eq_base.specs.Limits.{most_equations, most_left_cells, most_right_cells}
 use Rattle.eq_base.specs.Tree.{Tree, head_of, size}
 use Rattle.eq_base.specs.Pattern.{PatternCell, fixed}
 use Rattle.eq_base.specs.Meeting.{in_symbol_class}
 use Rattle.eq_base.specs.Operations.{application}
 use Rattle.eq_base.specs.declared.head.Head as heads
 use Rattle.eq_base.specs.declared.head.Head.TheVariants.{Symbol, Numeral, Atom, Text}
-use Rattle.eq_base.specs.declared.head.Cell as cells
-use Rattle.eq_base.specs.declared.head.Cell.TheVariants.{Head, Var, Class}
 use Rattle.eq_base.specs.declared.rules.Op.{Op}
 use Rattle.eq_base.specs.declared.rules.Right.{Right}
 use Rattle.eq_base.specs.declared.rules.Right.TheVariants as rights
@@ -30,25 +29,19 @@ IsApplicationOf e = (op : Op) → e.right ≡ rights.Schema op → (f : heads.He
 -- the equation has few enough cells and a symbol at the root of its left side, which is the application of
 -- the operation on the right side, if there is one
 pub record IsWellFormed (e : Equation) : Type 0 where
-  pub left_size : size e.left ≤ 255
-  pub right_size : right_size e.right ≤ 65535
+  pub left_size : size e.left ≤ most_left_cells
+  pub right_size : right_size e.right ≤ most_right_cells
   pub root : HasSymbolRoot e.left
   pub applied : IsApplicationOf e
 
 -- the equations are few enough, each is well formed, and their left sides agree on the number of arguments of
 -- each head, which is none for the heads of classes
 pub record AreWellFormed (equations : List Equation) : Type 0 where
-  pub few : length equations ≤ 2048
+  pub few : length equations ≤ most_equations
   pub each : All IsWellFormed equations
   pub arity : heads.Head → ℕ
   pub arities : All (λ e. HasArities arity e.left) equations
   pub constants : (class : ℕ) (h : heads.Head) → IsTrue (in_symbol_class class h) → arity h ≡ 0
-
--- the equation with this number has a left side with this place
-pub record IsPlaceOf (equations : List Equation) (number place : ℕ) : Type 0 where
-  pub equation : Equation
-  pub listed : slice_get equations number ≡ Some equation
-  pub there : place < size equation.left
 
 -- ---- by a table of symbols
 
@@ -65,12 +58,6 @@ abbrev pub GivesConstantsNone : List ℕ → Type 0
 GivesConstantsNone table = (class : ℕ) (h : heads.Head) → IsTrue (in_symbol_class class h)
     → arity_by table h ≡ 0
 
--- a head in the cell has as many arguments as the table says
-abbrev pub HasArityBy : List ℕ → cells.Cell → Type 0
-HasArityBy table (Head h n) = n ≡ arity_by table h
-HasArityBy table (Var x) = Unit {0}
-HasArityBy table (Class x class) = Unit {0}
-
 -- the equation is well formed, and the heads of its left side have as many arguments as the table says
 pub record IsWellFormedBy (table : List ℕ) (e : Equation) : Type 0 where
   pub well_formed : IsWellFormed e
@@ -78,6 +65,6 @@ pub record IsWellFormedBy (table : List ℕ) (e : Equation) : Type 0 where
 
 -- the equations are well formed, and the table has the number of arguments of each head
 pub record AreWellFormedBy (table : List ℕ) (equations : List Equation) : Type 0 where
-  pub few : length equations ≤ 2048
+  pub few : length equations ≤ most_equations
   pub each : All (IsWellFormedBy table) equations
   pub constants : GivesConstantsNone table

@@ -1,11 +1,14 @@
 // Breaks of the restrictions, and lists of them.
 ghost use Rattle.std.specs.Prelude.{◌≡◌, ◌<◌, [], ◌∷◌, ◌++◌, length, OnOk, OnErr, slice_get, Some, ◌↔◌};
 ghost use Rattle.std.specs.Prelude.{IsTrue, Contains};
+ghost use Rattle.std.specs.Slice.Iter.{iter_rest};
+ghost use Rattle.std.specs.Iterator.Adapters.{IterYieldsInOrder};
 ghost use Rattle.regularity.specs.Listing.{Precedes, IsOrdered, break_at};
 
 use eq_base::NoMemory;
 use std::alloc::Global;
 use std::marker::Model;
+use std::slice::Iter;
 
 /// A break of a restriction.
 #[derive(Clone, Copy, PartialEq, Eq, Debug)]
@@ -90,9 +93,10 @@ impl Breaks {
     ///
     /// # Errors
     ///
-    /// Out of memory.
+    /// Out of memory; the list is then unchanged.
     pub fn append(&mut self, other: &Breaks) -> Result<(), NoMemory>
-        ensures { OnOk result (self.new ≡ self.old ++ other.now) }
+        ensures ok { OnOk result (self.new ≡ self.old ++ other.now) }
+        ensures err { OnErr result (self.new ≡ self.old) }
     {
         self.items.extend_from_slice(&other.items)?;
         Ok(())
@@ -111,6 +115,15 @@ impl Breaks {
         ensures { slice_get self.now i ≡ Some result }
     {
         self.items[i]
+    }
+
+    /// The breaks, in their order.
+    pub fn iter(&self) -> Iter<'_, Break>
+        ensures rest { iter_rest result ≡ self.now }
+        ensures len { length (iter_rest result) ≡ length self.now }
+        ensures runs { IterYieldsInOrder Break }
+    {
+        self.items.iter()
     }
 
     /// Whether an ordered list has the break, in logarithmic time.

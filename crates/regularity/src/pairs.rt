@@ -4,8 +4,9 @@ ghost use Rattle.eq_base.specs.Meeting.{CellIsTested};
 ghost use Rattle.regularity.specs.Arities.{AgreeOnArities};
 ghost use Rattle.regularity.specs.Single.{IsSingle, TellSingles};
 ghost use Rattle.regularity.specs.Violations.{AreAmbiguous, IsOfTwo};
-ghost use Rattle.regularity.specs.Listing.{Lists, ListsBefore};
-ghost use Rattle.regularity.specs.WellFormed.{IsWellFormed, AreWellFormed, IsPlaceOf};
+ghost use Rattle.regularity.specs.Listing.{Lists};
+ghost use Rattle.regularity.specs.Looking.{ListsBefore, IsPlaceOf};
+ghost use Rattle.regularity.specs.WellFormed.{IsWellFormed, AreWellFormed};
 
 use crate::breaks::{Break, Breaks};
 use crate::common::has_common;

@@ -6,7 +6,8 @@ ghost use Rattle.regularity.specs.Occurrences.{OccursBefore, Repeats, IsUnbound}
 ghost use Rattle.regularity.specs.Restrictions.{HasUnbound};
 ghost use Rattle.regularity.specs.Single.{IsSingle, TellSingles};
 ghost use Rattle.regularity.specs.Violations.{IsOfOne};
-ghost use Rattle.regularity.specs.Listing.{Lists, ListsBefore};
+ghost use Rattle.regularity.specs.Listing.{Lists};
+ghost use Rattle.regularity.specs.Looking.{ListsBefore};
 ghost use Rattle.regularity.specs.WellFormed.{AreWellFormed};
 
 use crate::breaks::{Break, Breaks};

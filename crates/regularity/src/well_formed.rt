@@ -2,18 +2,14 @@
 ghost use Rattle.std.specs.Prelude.{◌≡◌, ◌↔◌, IsTrue};
 ghost use Rattle.regularity.specs.Arities.{HasArities};
 ghost use Rattle.regularity.specs.WellFormed.{right_size, HasSymbolRoot, IsApplicationOf, AreWellFormed};
-ghost use Rattle.regularity.specs.WellFormed.{arity_by, GivesConstantsNone, HasArityBy, IsWellFormedBy};
+ghost use Rattle.regularity.specs.WellFormed.{arity_by, GivesConstantsNone, IsWellFormedBy};
+ghost use Rattle.regularity.specs.Looking.{HasArityBy};
 ghost use Rattle.regularity.specs.WellFormed.{AreWellFormedBy};
 
 use builtin::is_schema_left;
-use eq_base::{Cell, Equation, Head, Pattern, Right, Rules};
-
-// The most equations, and the most cells of their sides.
-const MOST_EQUATIONS: usize = 2048;
-
-const MOST_LEFT_CELLS: usize = 255;
-
-const MOST_RIGHT_CELLS: usize = 65535;
+use eq_base::{
+    Cell, Equation, Head, MOST_EQUATIONS, MOST_LEFT_CELLS, MOST_RIGHT_CELLS, Pattern, Right, Rules,
+};
 
 /// Whether equations are few and small enough, have a symbol at the root of each left side, give an
 /// operation only to its application, and give each head of a left side the number of arguments that a

@@ -4,8 +4,9 @@ ghost use Rattle.eq_base.specs.Tree.{size, nth_subtree};
 ghost use Rattle.eq_base.specs.Meeting.{in_symbol_class};
 ghost use Rattle.regularity.specs.Arities.{AgreeOnArities};
 ghost use Rattle.regularity.specs.Single.{TellSingles};
-ghost use Rattle.regularity.specs.Listing.{IsOrdered, Lists, ListsBefore};
-ghost use Rattle.regularity.specs.WellFormed.{AreWellFormed, IsPlaceOf};
+ghost use Rattle.regularity.specs.Listing.{IsOrdered, Lists};
+ghost use Rattle.regularity.specs.Looking.{ListsBefore, IsPlaceOf};
+ghost use Rattle.regularity.specs.WellFormed.{AreWellFormed};
 ghost use Rattle.sequentiality.specs.Comparing.{HasFirstMismatch};
 ghost use Rattle.sequentiality.specs.Violations.{IsEarlier, IsTold, IsNotSequential};
 

@@ -3,7 +3,7 @@ ghost use Rattle.regularity.specs.WellFormed.{AreWellFormed};
 
 use crate::{AdmitError, Comparison, Regular, compare};
 use eq_base::{Cell, Equation, Head, NoMemory, Origin, Pattern, PatternMaker, Right, Rules};
-use regularity::{Break, Breaks, are_well_formed};
+use regularity::{Breaks, are_well_formed};
 use std::alloc::Global;
 use std::test::Fail;
 
@@ -83,8 +83,7 @@ fn are_breaks(found: &Breaks, wanted: &[(u8, usize, usize, usize)]) -> bool {
     if found.len() != wanted.len() {
         return false;
     }
-    for (i, (restriction, first, place, second)) in wanted.iter().enumerate() {
-        let here: Break = found.get(i);
+    for (here, (restriction, first, place, second)) in found.iter().zip(wanted) {
         if (
             here.restriction,
             here.first as usize,
@@ -185,6 +184,10 @@ fn equations_are_admitted_without_breaks(rt: HostRuntime) -> Result<(), Fail> {
         (
             [("hn", "1"), ("hn", "1"), ("h0", "1")].as_slice(),
             [].as_slice(),
+        ),
+        (
+            [("hn", "1"), ("hn", "1"), ("h0", "2")].as_slice(),
+            [(3, 0, 0, 2), (3, 1, 0, 2)].as_slice(),
         ),
         (
             [("ha", "c"), ("hb", "c"), ("ha", "d")].as_slice(),

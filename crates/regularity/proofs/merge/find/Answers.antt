@@ -4,11 +4,12 @@ use Rattle.eq_base.specs.Pattern.{fixed}
 use Rattle.eq_base.specs.Cells.{variable_in}
 use Rattle.eq_base.specs.declared.head.Head as heads
 use Rattle.eq_base.proofs.Trees.{end_within}
+use Rattle.eq_base.proofs.Numbers.{has_node}
 use Rattle.regularity.specs.declared.facing.Facing.TheVariants as facing
 use Rattle.regularity.specs.Occurrences.{variable_of}
 use Rattle.regularity.proofs.Occurrences.{variable_at_root}
 use Rattle.regularity.proofs.Facings.{faced, passed}
-use Rattle.regularity.proofs.Finding.{find_start, find_there, find_small, find_no_clash, find_here, find_inside, find_down, find_no_variable, find_past_own, find_past_other, other_no_head, head_of_root, no_head, same_variable, other_variable, some_size}
+use Rattle.regularity.proofs.Finding.{find_start, find_there, find_small, find_no_clash, find_here, find_inside, find_down, find_no_variable, find_past_own, find_past_other, other_no_head, head_of_root, no_head, same_variable, other_variable}
 use Rattle.regularity.proofs.merge.find.Goals as goal
 use Rattle.regularity.proofs.merge.find.Goals.{Then-prove, Else-own-end, In_default, In-Mismatch}
 
@@ -59,7 +60,7 @@ overflow_add-name-in_default c =
     omega (arith, c.end_of-other_end.ensures, c.requires.merge.other_size, end_within c.args.other.now c.loop-at.beside there)
 
 pub loop-at-smaller-else-own-end : goal.loop-at-smaller-else-own-end
-loop-at-smaller-else-own-end c = omega (arith, c.end_of-end.ensures, some_size (nth_subtree c.args.left.now c.loop-at.at))
+loop-at-smaller-else-own-end c = omega (arith, c.end_of-end.ensures, has_node (nth_subtree c.args.left.now c.loop-at.at))
 
 pub loop-at-preserved-else-own-end : goal.loop-at-preserved-else-own-end
 loop-at-preserved-else-own-end c =
@@ -73,7 +74,7 @@ loop-at-preserved-else-own-end c =
     (λ k from below o. c.first_occurrence-own.ensures.none k from (omega (arith, c.end_of-end.ensures, below)) o) c.in-Head.field-0 root)
 
 pub loop-at-smaller : goal.loop-at-smaller
-loop-at-smaller c = omega (arith, c.end_of-end.ensures, some_size (nth_subtree c.args.left.now c.loop-at.at))
+loop-at-smaller c = omega (arith, c.end_of-end.ensures, has_node (nth_subtree c.args.left.now c.loop-at.at))
 
 pub loop-at-preserved : goal.loop-at-preserved
 loop-at-preserved c =

@@ -1,4 +1,4 @@
-use Rattle.regularity.specs.Merge.{CanMerge}
+use Rattle.regularity.specs.MergedParts.{CanMerge}
 use Rattle.regularity.proofs.Readings.{can_merge_back}
 use Rattle.regularity.proofs.Filled.{over_left, merge_fills}
 use Rattle.regularity.proofs.merge.is_same_right.Goals as goal

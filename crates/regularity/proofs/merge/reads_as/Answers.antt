@@ -3,7 +3,7 @@ use Rattle.eq_base.specs.Tree.{size, nth_subtree}
 use Rattle.eq_base.specs.Cells.{variable_in}
 use Rattle.eq_base.proofs.Trees.{end_within}
 use Rattle.regularity.specs.Occurrences.{OccursAt}
-use Rattle.regularity.specs.Merge.{part_of_merge}
+use Rattle.regularity.specs.MergedParts.{part_of_merge}
 use Rattle.regularity.proofs.Occurrences.{variable_at_root}
 use Rattle.regularity.proofs.Readings.{reads_start, reads_end, inside, part_there, cell_differs, cell_on, part_differs, part_on}
 use Rattle.regularity.proofs.merge.reads_as.Goals as goal

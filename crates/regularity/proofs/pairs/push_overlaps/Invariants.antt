@@ -1,5 +1,5 @@
 use Rattle.regularity.specs.Violations.{IsOfTwo}
-use Rattle.regularity.specs.Listing.{ListsBefore}
+use Rattle.regularity.specs.Looking.{ListsBefore}
 use Rattle.regularity.proofs.pairs.push_overlaps.Given as goal
 
 abbrev pub invariant-loop-place : goal.invariant-loop-place

@@ -1,5 +1,5 @@
 use Rattle.regularity.specs.Violations.{IsOfOne}
-use Rattle.regularity.specs.Listing.{ListsBefore}
+use Rattle.regularity.specs.Looking.{ListsBefore}
 use Rattle.regularity.proofs.single.push_all_unbound.Given as goal
 
 abbrev pub invariant-loop-first : goal.invariant-loop-first

@@ -1,4 +1,4 @@
-use Rattle.regularity.specs.Listing.{ListsBefore}
+use Rattle.regularity.specs.Looking.{ListsBefore}
 use Rattle.sequentiality.specs.Violations.{IsNotSequential}
 use Rattle.sequentiality.proofs.order.push_breaks.Given as goal
 

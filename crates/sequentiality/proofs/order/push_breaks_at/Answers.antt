@@ -1,6 +1,6 @@
 use Rattle.std.proofs.Common.{◌≡◌, ◌<◌, arith, sym, ap, ◌∙◌, subst}
 use Rattle.eq_base.specs.Tree.{nth_subtree}
-use Rattle.regularity.specs.Listing.{ListsBefore}
+use Rattle.regularity.specs.Looking.{ListsBefore}
 use Rattle.eq_base.specs.Pattern.{IsTested}
 use Rattle.eq_base.specs.Cells.{kind_of}
 use Rattle.regularity.specs.Occurrences.{IsTestedPlace}
