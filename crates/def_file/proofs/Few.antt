@@ -8,6 +8,8 @@ use Rattle.term_lex.proofs.Marks.{Mark, Kind, disjoint, disjoint_marks}
 use Rattle.term_lex.proofs.Parts.{IsPart}
 use Rattle.term_lex.proofs.Tokens.{token_within}
 use Rattle.term_lex.proofs.Readings.{scans_within}
+use Rattle.written_terms.specs.Notation.{Notation}
+use Rattle.written_terms.proofs.Notations.{IsLawful}
 use Rattle.def_file.specs.Trees.{File}
 use Rattle.def_file.specs.Grammar.{IsToken, IsSymbolItem, IsItem, IsVariables, IsFile}
 use Rattle.def_file.proofs.Rules.{token_part, symbol_item_part, item_part}
@@ -86,8 +88,8 @@ module _ (text : List ℕ) where
       let few = separated_few (IsToken Name) (token_part Name) refl (IsKind Comma) (v ∷ vs) front at cut.mid le cut.first n in
       omega (arith, few, last.0)
 
-  pub file_few : (file : File) (xs : List Lexeme) (end : ℕ) → Scans text 0 xs end → IsFile file xs → IsFew file
-  file_few file xs end s (f1, b1, e1, w1, (f2, b2, e2, ss, (f3, b3, e3, w3, (f4, b4, e4, w4, (f5, b5, e5, vs, (f6, b6, e6, is, r)))))) =
+  pub file_few : {notation : Notation} → IsLawful notation → (file : File) (xs : List Lexeme) (end : ℕ) → Scans text 0 xs end → IsFile notation file xs → IsFew file
+  file_few {notation = notation} laws file xs end s (f1, b1, e1, w1, (f2, b2, e2, ss, (f3, b3, e3, w3, (f4, b4, e4, w4, (f5, b5, e5, vs, (f6, b6, e6, is, r)))))) =
       let c1 = scans_split f1 b1 0 end (subst (λ ys. Scans text 0 ys end) e1 s) in
       let i1 = scans_within text 0 f1 c1.mid (omega arith) c1.first in
       let c2 = scans_split f2 b2 c1.mid end (subst (λ ys. Scans text c1.mid ys end) e2 c1.second) in
@@ -100,7 +102,7 @@ module _ (text : List ℕ) where
       let i5 = scans_within text c4.mid f5 c5.mid i4.1 c5.first in
       let c6 = scans_split f6 b6 c5.mid end (subst (λ ys. Scans text c5.mid ys end) e6 c5.second) in
       let i6 = scans_within text c5.mid f6 c6.mid i5.1 c6.first in
-      let items = closed_few IsItem item_part refl (IsKind Semicolon) (IsKind Dot) file.items f6 c5.mid c6.mid i5.1 c6.first is in
+      let items = closed_few (IsItem notation) (item_part laws) refl (IsKind Semicolon) (IsKind Dot) file.items f6 c5.mid c6.mid i5.1 c6.first is in
       let symbols = closed_few IsSymbolItem symbol_item_part refl (IsKind Semicolon) (IsKind Dot) file.symbols f2 c1.mid c2.mid i1.1 c2.first ss in
       let variables = variables_few file.variables f5 c4.mid c5.mid i4.1 c5.first vs in
       record { symbols = omega (arith, symbols, i2.1); variables = omega (arith, variables, i5.1); items = omega (arith, items, i6.1) }

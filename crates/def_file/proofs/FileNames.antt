@@ -2,6 +2,7 @@
 use Rattle.std.proofs.Common.{◌≡◌, ℕ, List, [], ◌++◌, refl, sym, subst, map, append-nil, append_assoc, Result, Err, length, ◌≤◌, inl, inr}
 use Rattle.std.specs.List.{flat_map}
 use Rattle.symbol_table.specs.Table.{Table}
+use Rattle.written_terms.specs.Notation.{Notation}
 use Rattle.def_file.specs.declared.error.FileError.{FileError}
 use Rattle.def_file.specs.declared.error.FileError.TheVariants.{Refused, NoMemory}
 use Rattle.def_file.specs.declared.naming.Named.{Named}
@@ -13,7 +14,7 @@ use Rattle.def_file.specs.Names.{Place, Variable, Known, nothing_known, symbol_p
 use Rattle.def_file.specs.Naming.{only_symbols, no_operations, IsNaming}
 use Rattle.def_file.proofs.Namings.{IsUnderWay, none_taken, more_taken, one_refused}
 
-module _ (text : List ℕ) (file : File) where
+module _ (notation : Notation) (text : List ℕ) (file : File) where
   abbrev symbols_in : List Place
   symbols_in = flat_map symbol_places file.symbols
 
@@ -23,30 +24,30 @@ module _ (text : List ℕ) (file : File) where
   abbrev items_in : List Place
   items_in = flat_map item_places file.items
 
-  pub naming_refused : (r : Result Named FileError) (e : FileError) → r ≡ Err e → IfRefused (RefusesFirst text nothing_known (places_of file)) e → IsNaming text file r
-  naming_refused r e same h = subst (IsNaming text file) (sym same) h
+  pub naming_refused : (r : Result Named FileError) (e : FileError) → r ≡ Err e → IfRefused (RefusesFirst notation text nothing_known (places_of file)) e → IsNaming notation text file r
+  naming_refused r e same h = subst (IsNaming notation text file) (sym same) h
 
-  pub symbols_refused : (e : FileError) → IfRefused (RefusesFirst text nothing_known symbols_in) e → IfRefused (RefusesFirst text nothing_known (places_of file)) e
-  symbols_refused e h = one_refused text nothing_known nothing_known (places_of file) (places_of file) symbols_in (variables_in ++ items_in) (append_assoc symbols_in variables_in items_in) (none_taken text nothing_known (places_of file)) e h
+  pub symbols_refused : (e : FileError) → IfRefused (RefusesFirst notation text nothing_known symbols_in) e → IfRefused (RefusesFirst notation text nothing_known (places_of file)) e
+  symbols_refused e h = one_refused notation text nothing_known nothing_known (places_of file) (places_of file) symbols_in (variables_in ++ items_in) (append_assoc symbols_in variables_in items_in) (none_taken notation text nothing_known (places_of file)) e h
 
-  module _ (table : Table) (symbols : TakesAll text nothing_known symbols_in (only_symbols table)) where
-    behind_symbols : IsUnderWay text nothing_known (places_of file) (only_symbols table) (variables_in ++ items_in)
-    behind_symbols = more_taken text nothing_known nothing_known (places_of file) (places_of file) symbols_in (variables_in ++ items_in) (append_assoc symbols_in variables_in items_in) (none_taken text nothing_known (places_of file)) (only_symbols table) symbols
+  module _ (table : Table) (symbols : TakesAll notation text nothing_known symbols_in (only_symbols table)) where
+    behind_symbols : IsUnderWay notation text nothing_known (places_of file) (only_symbols table) (variables_in ++ items_in)
+    behind_symbols = more_taken notation text nothing_known nothing_known (places_of file) (places_of file) symbols_in (variables_in ++ items_in) (append_assoc symbols_in variables_in items_in) (none_taken notation text nothing_known (places_of file)) (only_symbols table) symbols
 
-    pub variables_refused : (e : FileError) → IfRefused (RefusesFirst text (only_symbols table) variables_in) e → IfRefused (RefusesFirst text nothing_known (places_of file)) e
-    variables_refused e h = one_refused text nothing_known (only_symbols table) (places_of file) (variables_in ++ items_in) variables_in items_in refl behind_symbols e h
+    pub variables_refused : (e : FileError) → IfRefused (RefusesFirst notation text (only_symbols table) variables_in) e → IfRefused (RefusesFirst notation text nothing_known (places_of file)) e
+    variables_refused e h = one_refused notation text nothing_known (only_symbols table) (places_of file) (variables_in ++ items_in) variables_in items_in refl behind_symbols e h
 
-    module _ (names : List (List ℕ)) (variables : TakesAll text (only_symbols table) variables_in (no_operations table names)) where
-      behind_variables : IsUnderWay text nothing_known (places_of file) (no_operations table names) items_in
-      behind_variables = more_taken text nothing_known (only_symbols table) (places_of file) (variables_in ++ items_in) variables_in items_in refl behind_symbols (no_operations table names) variables
+    module _ (names : List (List ℕ)) (variables : TakesAll notation text (only_symbols table) variables_in (no_operations table names)) where
+      behind_variables : IsUnderWay notation text nothing_known (places_of file) (no_operations table names) items_in
+      behind_variables = more_taken notation text nothing_known (only_symbols table) (places_of file) (variables_in ++ items_in) variables_in items_in refl behind_symbols (no_operations table names) variables
 
-      pub items_refused : (e : FileError) → IfRefused (RefusesFirst text (no_operations table names) items_in) e → IfRefused (RefusesFirst text nothing_known (places_of file)) e
-      items_refused e h = one_refused text nothing_known (no_operations table names) (places_of file) items_in items_in [] (sym (append-nil items_in)) behind_variables e h
+      pub items_refused : (e : FileError) → IfRefused (RefusesFirst notation text (no_operations table names) items_in) e → IfRefused (RefusesFirst notation text nothing_known (places_of file)) e
+      items_refused e h = one_refused notation text nothing_known (no_operations table names) (places_of file) items_in items_in [] (sym (append-nil items_in)) behind_variables e h
 
-      pub all_named : (known : Known) → TakesAll text (no_operations table names) items_in known → TakesAll text nothing_known (places_of file) known
+      pub all_named : (known : Known) → TakesAll notation text (no_operations table names) items_in known → TakesAll notation text nothing_known (places_of file) known
       all_named known items = behind_variables.takes known items
 
 -- a name that is refused is the fault of a file that is short and is read
-pub names_fault : (text : List ℕ) (file : File) → length text ≤ most_bytes → IsFileText text file → (e : FileError) → IfRefused (RefusesFirst text nothing_known (places_of file)) e → IfRefused (IsFileFault text) e
-names_fault text file short reads (Refused f) h = inr (short, inr (inl (record { file = file; reads = reads; refused = h })))
-names_fault text file short reads NoMemory h = tt
+pub names_fault : (notation : Notation) (text : List ℕ) (file : File) → length text ≤ most_bytes → IsFileText notation text file → (e : FileError) → IfRefused (RefusesFirst notation text nothing_known (places_of file)) e → IfRefused (IsFileFault notation text) e
+names_fault notation text file short reads (Refused f) h = inr (short, inr (inl (record { file = file; reads = reads; refused = h })))
+names_fault notation text file short reads NoMemory h = tt

@@ -1,5 +1,7 @@
-pub mod Readings
+pub mod Lawful
 pub mod Rules
+pub mod WithoutTerms
+pub mod Readings
 pub mod Tokens
 pub mod Lists
 pub mod Deciding

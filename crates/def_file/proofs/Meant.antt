@@ -12,6 +12,7 @@ use Rattle.eq_base.specs.declared.rules.Op.{Op}
 use Rattle.term_lex.specs.declared.token.Token.{Token}
 use Rattle.symbol_table.specs.Table.{Table}
 use Rattle.symbol_table.specs.Reading.{read_pattern, IsLivePattern, IsLiveCell}
+use Rattle.written_terms.specs.Notation.{Notation}
 use Rattle.def_file.specs.declared.naming.conditions.Choice.{Choice}
 use Rattle.def_file.specs.declared.naming.conditions.Choice.TheVariants as choice
 use Rattle.def_file.specs.declared.naming.conditions.TakenCondition.{TakenCondition}
@@ -74,12 +75,12 @@ module _ (table : Table) (classes : List (ℕ × ℕ)) where
 
 -- ---- conditions and equations
 
-module _ (text : List ℕ) (known : Known) (table : Table) where
+module _ (notation : Notation) (text : List ℕ) (known : Known) (table : Table) where
   abbrev Taken : Condition → TakenCondition → Type 0
-  Taken c t = TakesCondition text known table c.variable c.restriction t
+  Taken c t = TakesCondition notation text known table c.variable c.restriction t
 
   -- the class of the first condition, and those of the rest
-  first_in : (name : Token) (r : Restriction) (x : ℕ) (t : Choice) → NamesVariable text known name x → TakesChoice text known table r t → (Rest : List (ℕ × ℕ) → Type 0) → (rest : List (ℕ × ℕ)) → Rest rest → IsFirstIn text known name r Rest (class_in x t ++ rest)
+  first_in : (name : Token) (r : Restriction) (x : ℕ) (t : Choice) → NamesVariable text known name x → TakesChoice notation text known table r t → (Rest : List (ℕ × ℕ) → Type 0) → (rest : List (ℕ × ℕ)) → Rest rest → IsFirstIn text known name r Rest (class_in x t ++ rest)
   first_in name (InClass class) x (choice.InClass k) named h Rest rest r = (x, k, rest, named, h, refl, r)
   first_in name (OneOf terms) x (choice.OneOf patterns) named h Rest rest r = r
   first_in name (InClass class) x (choice.OneOf patterns) named h Rest rest r = absurd h
@@ -93,27 +94,27 @@ module _ (text : List ℕ) (known : Known) (table : Table) where
   are_in (c ∷ cs) (t ∷ ts) (h, hs) = first_in c.variable c.restriction t.variable t.choice h.variable h.choice (λ rest. AreIn text known cs rest) (classes_in ts) (are_in cs ts hs)
 
   module _ (classes : List (ℕ × ℕ)) where
-    side : (byte : ℕ) (p : Tree (PatternCell Head)) → IsSideTaken text known table byte p → MeansSide text known classes byte (read_pattern table (map_heads (classed classes) p))
+    side : (byte : ℕ) (p : Tree (PatternCell Head)) → IsSideTaken notation text known table byte p → MeansSide notation text known classes byte (read_pattern table (map_heads (classed classes) p))
     side byte p is = (read_pattern table p, is.means, pattern-classed _ classes p)
 
-    choices : (r : Restriction) (t : Choice) → TakesChoice text known table r t → MeanChoices text known classes r (map (read_pattern table) (choices_of classes t))
+    choices : (r : Restriction) (t : Choice) → TakesChoice notation text known table r t → MeanChoices notation text known classes r (map (read_pattern table) (choices_of classes t))
     choices (InClass name) (choice.InClass k) h = refl
     choices (OneOf terms) (choice.OneOf patterns) h =
-        related_map (λ byte q. MeansSide text known classes byte (read_pattern table q)) (MeansSide text known classes) (read_pattern table) (λ byte q m. m) terms _
-        (related_map (IsSideTaken text known table) (λ byte q. MeansSide text known classes byte (read_pattern table q)) (map_heads (classed classes)) side terms patterns.items h)
+        related_map (λ byte q. MeansSide notation text known classes byte (read_pattern table q)) (MeansSide notation text known classes) (read_pattern table) (λ byte q m. m) terms _
+        (related_map (IsSideTaken notation text known table) (λ byte q. MeansSide notation text known classes byte (read_pattern table q)) (map_heads (classed classes)) side terms patterns.items h)
     choices (InClass name) (choice.OneOf patterns) h = absurd h
     choices (OneOf terms) (choice.InClass k) h = absurd h
 
-    qualifier : (c : Condition) (t : TakenCondition) → Taken c t → MeansQualifier text known classes c (qualifier_read table (qualifier_of classes t))
+    qualifier : (c : Condition) (t : TakenCondition) → Taken c t → MeansQualifier notation text known classes c (qualifier_read table (qualifier_of classes t))
     qualifier c t h = record { variable = h.variable; choices = choices c.restriction t.choice h.choice; place = h.place }
 
-    live_patterns : (terms : List ℕ) (ps : List (Tree (PatternCell Head))) → AreRelated (IsSideTaken text known table) terms ps → AllByRecursion (IsLivePattern table) (map (map_heads (classed classes)) ps)
+    live_patterns : (terms : List ℕ) (ps : List (Tree (PatternCell Head))) → AreRelated (IsSideTaken notation text known table) terms ps → AllByRecursion (IsLivePattern table) (map (map_heads (classed classes)) ps)
     live_patterns [] [] h = tt
     live_patterns [] (p ∷ ps) h = absurd h
     live_patterns (x ∷ xs) [] h = absurd h
     live_patterns (x ∷ xs) (p ∷ ps) (h, hs) = (live_classed table classes p h.live, live_patterns xs ps hs)
 
-    live_choices : (r : Restriction) (t : Choice) → TakesChoice text known table r t → AllByRecursion (IsLivePattern table) (choices_of classes t)
+    live_choices : (r : Restriction) (t : Choice) → TakesChoice notation text known table r t → AllByRecursion (IsLivePattern table) (choices_of classes t)
     live_choices (InClass name) (choice.InClass k) h = tt
     live_choices (OneOf terms) (choice.OneOf patterns) h = live_patterns terms patterns.items h
     live_choices (InClass name) (choice.OneOf patterns) h = absurd h
@@ -126,7 +127,7 @@ module _ (text : List ℕ) (known : Known) (table : Table) where
     live_qualifiers (c ∷ cs) (t ∷ ts) (h, hs) = (live_choices c.restriction t.choice h.choice, live_qualifiers cs ts hs)
 
   -- sides that are taken mean the equation whose variables stand with their classes
-  pub equation_means : (sides : Sides) (t : TakenEquation) → TakesEquation text known table sides t → MeansEquation text known sides (equation_read table (written_of sides.left t))
+  pub equation_means : (sides : Sides) (t : TakenEquation) → TakesEquation notation text known table sides t → MeansEquation notation text known sides (equation_read table (written_of sides.left t))
   equation_means sides t h =
       let classes = classes_in t.conditions.items in
       record {
@@ -134,12 +135,12 @@ module _ (text : List ℕ) (known : Known) (table : Table) where
         are_in = are_in sides.conditions t.conditions.items h.conditions;
         left = side classes sides.left t.left h.left;
         right = side classes sides.right t.right h.right;
-        qualifiers = related_map (λ c q. MeansQualifier text known classes c (qualifier_read table q)) (MeansQualifier text known classes) (qualifier_read table) (λ c q m. m) sides.conditions _
-            (related_map Taken (λ c q. MeansQualifier text known classes c (qualifier_read table q)) (qualifier_of classes) (qualifier classes) sides.conditions t.conditions.items h.conditions);
+        qualifiers = related_map (λ c q. MeansQualifier notation text known classes c (qualifier_read table q)) (MeansQualifier notation text known classes) (qualifier_read table) (λ c q m. m) sides.conditions _
+            (related_map Taken (λ c q. MeansQualifier notation text known classes c (qualifier_read table q)) (qualifier_of classes) (qualifier classes) sides.conditions t.conditions.items h.conditions);
         place = refl;
       }
 
-  pub equation_live : (sides : Sides) (t : TakenEquation) → TakesEquation text known table sides t → IsLiveWritten table (written_of sides.left t)
+  pub equation_live : (sides : Sides) (t : TakenEquation) → TakesEquation notation text known table sides t → IsLiveWritten table (written_of sides.left t)
   equation_live sides t h =
       let classes = classes_in t.conditions.items in
       record {
@@ -157,15 +158,15 @@ module _ (text : List ℕ) (known : Known) (table : Table) where
 
 -- ---- one item after another
 
-module _ (text : List ℕ) (known : Known) where
+module _ (notation : Notation) (text : List ℕ) (known : Known) where
   -- one item more
-  pub items_more : (number : ℕ) (xs : List EquationItem) (x : EquationItem) (front back : List ReadNumbered) → MeanItems text known number xs front → MeansItem text known (number + length xs) x back → MeanItems text known number (xs ++ x ∷ []) (front ++ back)
+  pub items_more : (number : ℕ) (xs : List EquationItem) (x : EquationItem) (front back : List ReadNumbered) → MeanItems notation text known number xs front → MeansItem notation text known (number + length xs) x back → MeanItems notation text known number (xs ++ x ∷ []) (front ++ back)
   items_more number [] x front back h here =
       let same : number + 0 ≡ number = omega arith in
-      (back, [], ap (λ l. l ++ back) h ∙ sym (append-nil back), subst (λ n. MeansItem text known n x back) same here, refl)
+      (back, [], ap (λ l. l ++ back) h ∙ sym (append-nil back), subst (λ n. MeansItem notation text known n x back) same here, refl)
   items_more number (y ∷ ys) x front back (f, b, is, m, ms) here =
       let same : number + length (y ∷ ys) ≡ number + 1 + length ys = omega arith in
-      (f, b ++ back, ap (λ l. l ++ back) is ∙ append_assoc f b back, m, items_more (number + 1) ys x b back ms (subst (λ n. MeansItem text known n x back) same here))
+      (f, b ++ back, ap (λ l. l ++ back) is ∙ append_assoc f b back, m, items_more (number + 1) ys x b back ms (subst (λ n. MeansItem notation text known n x back) same here))
 
 -- the limits of equations, one after another
 pub limits_append : (before : ℕ) (xs ys : List Sides) → all_limits before (xs ++ ys) ≡ all_limits before xs ++ all_limits (before + length xs) ys
@@ -181,38 +182,38 @@ live_classes : (table : Table) (number : ℕ) (operations : List (Op × ℕ)) �
 live_classes table number [] = tt
 live_classes table number (o ∷ os) = (tt, live_classes table number os)
 
-module _ (text : List ℕ) (known : Known) (table : Table) where
-  pub item_more : (number before : ℕ) (xs : List EquationItem) (x : EquationItem) (front : List Numbered) (t : TakenItem) → MeanItems text known number xs (map (numbered_read table) front) → TakesItem text known table before x t → MeanItems text known number (xs ++ x ∷ []) (map (numbered_read table) (items_behind (number + length xs) front t))
+module _ (notation : Notation) (text : List ℕ) (known : Known) (table : Table) where
+  pub item_more : (number before : ℕ) (xs : List EquationItem) (x : EquationItem) (front : List Numbered) (t : TakenItem) → MeanItems notation text known number xs (map (numbered_read table) front) → TakesItem notation text known table before x t → MeanItems notation text known number (xs ++ x ∷ []) (map (numbered_read table) (items_behind (number + length xs) front t))
   item_more number before xs (Equates sides) front (taking.Equates equation fault) m h =
       let last = record { item = item.Equation equation; number = number + length xs } ∷ [] in
-      subst (MeanItems text known number (xs ++ Equates sides ∷ [])) (sym (map-append (numbered_read table) front last))
-      (items_more text known number xs (Equates sides) (map (numbered_read table) front) (map (numbered_read table) last) m (equation_read table equation, h.means, refl))
+      subst (MeanItems notation text known number (xs ++ Equates sides ∷ [])) (sym (map-append (numbered_read table) front last))
+      (items_more notation text known number xs (Equates sides) (map (numbered_read table) front) (map (numbered_read table) last) m (equation_read table equation, h.means, refl))
   item_more number before xs (IncludesOperations include names) front (taking.Includes operations) m h =
       let last = map (class_item (number + length xs)) operations.items in
-      subst (MeanItems text known number (xs ++ IncludesOperations include names ∷ [])) (sym (map-append (numbered_read table) front last))
-      (items_more text known number xs (IncludesOperations include names) (map (numbered_read table) front) (map (numbered_read table) last) m (classes_mean text known table (number + length xs) names operations.items h))
+      subst (MeanItems notation text known number (xs ++ IncludesOperations include names ∷ [])) (sym (map-append (numbered_read table) front last))
+      (items_more notation text known number xs (IncludesOperations include names) (map (numbered_read table) front) (map (numbered_read table) last) m (classes_mean notation text known table (number + length xs) names operations.items h))
   item_more number before xs (Equates sides) front (taking.Includes operations) m h = absurd h
   item_more number before xs (IncludesOperations include names) front (taking.Equates equation fault) m h = absurd h
 
-  pub live_more : (number before : ℕ) (x : EquationItem) (front : List Numbered) (t : TakenItem) → AreLiveItems table front → TakesItem text known table before x t → AreLiveItems table (items_behind number front t)
+  pub live_more : (number before : ℕ) (x : EquationItem) (front : List Numbered) (t : TakenItem) → AreLiveItems table front → TakesItem notation text known table before x t → AreLiveItems table (items_behind number front t)
   live_more number before (Equates sides) front (taking.Equates equation fault) live h = all_both _ front _ live (h.live, tt)
   live_more number before (IncludesOperations include names) front (taking.Includes operations) live h = all_both _ front _ live (live_classes table number operations.items)
   live_more number before (Equates sides) front (taking.Includes operations) live h = absurd h
   live_more number before (IncludesOperations include names) front (taking.Equates equation fault) live h = absurd h
 
-  pub limits_more : (xs : List EquationItem) (x : EquationItem) (found : Option Fault) (t : TakenItem) → AnswersLimits text known (all_limits 0 (flat_map equation_of xs)) found → TakesItem text known table (length (flat_map equation_of xs)) x t → AnswersLimits text known (all_limits 0 (flat_map equation_of (xs ++ x ∷ []))) (fault_behind found t)
+  pub limits_more : (xs : List EquationItem) (x : EquationItem) (found : Option Fault) (t : TakenItem) → AnswersLimits notation text known (all_limits 0 (flat_map equation_of xs)) found → TakesItem notation text known table (length (flat_map equation_of xs)) x t → AnswersLimits notation text known (all_limits 0 (flat_map equation_of (xs ++ x ∷ []))) (fault_behind found t)
   limits_more xs (Equates sides) found (taking.Equates equation fault) a h =
       let before = flat_map equation_of xs in
       let one : all_limits (0 + length before) (sides ∷ []) ≡ limits_of (length before) sides = ap (λ n. all_limits n (sides ∷ [])) (omega arith) ∙ append-nil (limits_of (length before) sides) in
       let all : all_limits 0 (flat_map equation_of (xs ++ Equates sides ∷ [])) ≡ all_limits 0 before ++ limits_of (length before) sides =
       ap (all_limits 0) (flat_append equation_of xs (Equates sides ∷ [])) ∙ limits_append 0 before (sides ∷ []) ∙ ap (λ l. all_limits 0 before ++ l) one in
-      subst (λ ls. AnswersLimits text known ls (first_fault found fault)) (sym all) (answers_append text known (all_limits 0 before) (limits_of (length before) sides) found fault a h.limits)
+      subst (λ ls. AnswersLimits notation text known ls (first_fault found fault)) (sym all) (answers_append notation text known (all_limits 0 before) (limits_of (length before) sides) found fault a h.limits)
   limits_more xs (IncludesOperations include names) found (taking.Includes operations) a h =
-      subst (λ ss. AnswersLimits text known (all_limits 0 ss) found) (sym (flat_append equation_of xs (IncludesOperations include names ∷ []) ∙ append-nil (flat_map equation_of xs))) a
+      subst (λ ss. AnswersLimits notation text known (all_limits 0 ss) found) (sym (flat_append equation_of xs (IncludesOperations include names ∷ []) ∙ append-nil (flat_map equation_of xs))) a
   limits_more xs (Equates sides) found (taking.Includes operations) a h = absurd h
   limits_more xs (IncludesOperations include names) found (taking.Equates equation fault) a h = absurd h
 
-  pub count_more : (before : ℕ) (xs : List EquationItem) (x : EquationItem) (t : TakenItem) → before ≡ length (flat_map equation_of xs) → TakesItem text known table before x t → equations_behind before t ≡ length (flat_map equation_of (xs ++ x ∷ []))
+  pub count_more : (before : ℕ) (xs : List EquationItem) (x : EquationItem) (t : TakenItem) → before ≡ length (flat_map equation_of xs) → TakesItem notation text known table before x t → equations_behind before t ≡ length (flat_map equation_of (xs ++ x ∷ []))
   count_more before xs (Equates sides) (taking.Equates equation fault) e h = ap (λ n. n + 1) e ∙ sym (ap length (flat_append equation_of xs (Equates sides ∷ [])) ∙ length-append (flat_map equation_of xs) (sides ∷ []))
   count_more before xs (IncludesOperations include names) (taking.Includes operations) e h = e ∙ sym (ap length (flat_append equation_of xs (IncludesOperations include names ∷ []) ∙ append-nil (flat_map equation_of xs)))
   count_more before xs (Equates sides) (taking.Includes operations) e h = absurd h

@@ -7,6 +7,8 @@ use Rattle.eq_base.specs.ReadHead.{ReadHead}
 use Rattle.term_lex.specs.declared.token.Token.{Token}
 use Rattle.term_lex.specs.declared.fault.Fault.{Fault}
 use Rattle.symbol_table.specs.Table.{HasDistinctNames}
+use Rattle.written_terms.specs.Notation.{Notation}
+use Rattle.written_terms.proofs.Notations.{IsLawful}
 use Rattle.def_file.specs.declared.error.FileError.{FileError}
 use Rattle.def_file.specs.declared.error.FileError.TheVariants.{Refused, NoMemory}
 use Rattle.def_file.specs.AsRead.{ReadQualifier, ReadEquation, Equation, Class, ReadNumbered, ReadDefinitions}
@@ -32,7 +34,7 @@ related_one R same (x ∷ xs) (y ∷ ys) (z ∷ zs) (r, rs) (s, ss) =
     λ i. head i ∷ tail i
 
 -- what is written means one thing
-module _ (text : List ℕ) (known : Known) (once : AreOnce known) where
+module _ {notation : Notation} (laws : IsLawful notation) (text : List ℕ) (known : Known) (once : AreOnce known) where
   variable_one : (name : Token) (x y : ℕ) → NamesVariable text known name x → NamesVariable text known name y
       → x ≡ y
   variable_one name x y is is' = once.variables (token_bytes text name) x y is is'
@@ -59,36 +61,36 @@ module _ (text : List ℕ) (known : Known) (once : AreOnce known) where
       xs ys r r'
 
   module _ (classes : List (ℕ × ℕ)) where
-    side_one : (byte : ℕ) (p q : Tree (PatternCell ReadHead)) → MeansSide text known classes byte p
-        → MeansSide text known classes byte q → p ≡ q
+    side_one : (byte : ℕ) (p q : Tree (PatternCell ReadHead)) → MeansSide notation text known classes byte p
+        → MeansSide notation text known classes byte q → p ≡ q
     side_one byte p q (plain, is, e) (plain', is', e') =
-        e ∙ ap (map_heads (classed classes)) (pattern_one text known once byte plain plain' is is') ∙ sym e'
+        e ∙ ap (map_heads (classed classes)) (pattern_one laws text known once byte plain plain' is is') ∙ sym e'
 
     choices_one : (r : Restriction) (ps qs : List (Tree (PatternCell ReadHead)))
-        → MeanChoices text known classes r ps → MeanChoices text known classes r qs → ps ≡ qs
+        → MeanChoices notation text known classes r ps → MeanChoices notation text known classes r qs → ps ≡ qs
     choices_one (InClass name) ps qs e e' = e ∙ sym e'
     choices_one (OneOf terms) ps qs r r' =
-        related_one (MeansSide text known classes) side_one terms ps qs r r'
+        related_one (MeansSide notation text known classes) side_one terms ps qs r r'
 
-    qualifier_one : (c : Condition) (p q : ReadQualifier) → MeansQualifier text known classes c p
-        → MeansQualifier text known classes c q → p ≡ q
+    qualifier_one : (c : Condition) (p q : ReadQualifier) → MeansQualifier notation text known classes c p
+        → MeansQualifier notation text known classes c q → p ≡ q
     qualifier_one c p q m m' =
         let variable = variable_one c.variable p.variable q.variable m.variable m'.variable in
         let choices = choices_one c.restriction p.choices q.choices m.choices m'.choices in
         let byte = m.place ∙ sym m'.place in
         λ i. record { variable = variable i; choices = choices i; byte = byte i }
 
-  equation_one : (sides : Sides) (p q : ReadEquation) → MeansEquation text known sides p
-      → MeansEquation text known sides q → p ≡ q
+  equation_one : (sides : Sides) (p q : ReadEquation) → MeansEquation notation text known sides p
+      → MeansEquation notation text known sides q → p ≡ q
   equation_one sides p q m m' =
       let same = classes_one sides.conditions m'.classes m.classes m'.are_in m.are_in in
       let left = side_one m.classes sides.left p.left q.left m.left
-      (subst (λ cs. MeansSide text known cs sides.left q.left) same m'.left) in
+      (subst (λ cs. MeansSide notation text known cs sides.left q.left) same m'.left) in
       let right = side_one m.classes sides.right p.right q.right m.right
-      (subst (λ cs. MeansSide text known cs sides.right q.right) same m'.right) in
-      let qualifiers = related_one (MeansQualifier text known m.classes) (qualifier_one m.classes)
+      (subst (λ cs. MeansSide notation text known cs sides.right q.right) same m'.right) in
+      let qualifiers = related_one (MeansQualifier notation text known m.classes) (qualifier_one m.classes)
       sides.conditions p.qualifiers q.qualifiers m.qualifiers
-      (subst (λ cs. AreRelated (MeansQualifier text known cs) sides.conditions q.qualifiers) same
+      (subst (λ cs. AreRelated (MeansQualifier notation text known cs) sides.conditions q.qualifiers) same
       m'.qualifiers) in
       let byte = m.place ∙ sym m'.place in
       λ i. record { left = left i; right = right i; qualifiers = qualifiers i; byte = byte i }
@@ -99,15 +101,15 @@ module _ (text : List ℕ) (known : Known) (once : AreOnce known) where
       let same = one_operation (token_bytes text name) op op' named named' in
       e ∙ ap (λ o. record { item = Class o name.from; number = number }) same ∙ sym e'
 
-  item_one : (number : ℕ) (i : EquationItem) (ns ms : List ReadNumbered) → MeansItem text known number i ns
-      → MeansItem text known number i ms → ns ≡ ms
+  item_one : (number : ℕ) (i : EquationItem) (ns ms : List ReadNumbered) → MeansItem notation text known number i ns
+      → MeansItem notation text known number i ms → ns ≡ ms
   item_one number (Equates sides) ns ms (p, m, e) (q, m', e') =
       e ∙ ap (λ w. record { item = Equation w; number = number } ∷ []) (equation_one sides p q m m') ∙ sym e'
   item_one number (IncludesOperations include names) ns ms r s =
       related_one (MeansOperation text known number) (class_one number) names ns ms r s
 
   items_one : (number : ℕ) (is : List EquationItem) (ns ms : List ReadNumbered)
-      → MeanItems text known number is ns → MeanItems text known number is ms → ns ≡ ms
+      → MeanItems notation text known number is ns → MeanItems notation text known number is ms → ns ≡ ms
   items_one number [] ns ms e e' = e ∙ sym e'
   items_one number (i ∷ is) ns ms (front, back, e, m, rest) (front', back', e', m', rest') =
       let first = item_one number i front front' m m' in
@@ -115,36 +117,36 @@ module _ (text : List ℕ) (known : Known) (once : AreOnce known) where
       let whole : front ++ back ≡ front' ++ back' = λ j. first j ++ later j in
       e ∙ whole ∙ sym e'
 
-module _ (text : List ℕ) where
+module _ {notation : Notation} (laws : IsLawful notation) (text : List ℕ) where
   -- what a text says declares no name twice
-  pub says_distinct : (d : ReadDefinitions) → Says text d → HasDistinctNames d.names
+  pub says_distinct : (d : ReadDefinitions) → Says notation text d → HasDistinctNames d.names
   says_distinct d s =
-      subst HasDistinctNames (sym s.declared) (distinct_names text (places_of s.file) s.known s.names).names
+      subst HasDistinctNames (sym s.declared) (distinct_names laws text (places_of s.file) s.known s.names).names
 
   -- a text says one list of definitions
-  pub says_one : (one other : ReadDefinitions) → Says text one → Says text other → one ≡ other
+  pub says_one : (one other : ReadDefinitions) → Says notation text one → Says notation text other → one ≡ other
   says_one one other s t =
-      let same = one_known text t.file s.file t.known s.known t.reads s.reads t.names s.names in
+      let same = one_known laws text t.file s.file t.known s.known t.reads s.reads t.names s.names in
       let names = s.declared ∙ ap (λ (k : Known). k.table) (sym same.1) ∙ sym t.declared in
       let variables = s.variables ∙ ap (λ (k : Known). k.variables) (sym same.1) ∙ sym t.variables in
-      let once = distinct_names text (places_of s.file) s.known s.names in
-      let items = items_one text s.known once 1 s.file.items
+      let once = distinct_names laws text (places_of s.file) s.known s.names in
+      let items = items_one laws text s.known once 1 s.file.items
       one.items other.items s.items
-      (subst (λ k. MeanItems text k 1 s.file.items other.items) same.1
-      (subst (λ (f : File). MeanItems text t.known 1 f.items other.items) same.0 t.items)) in
+      (subst (λ k. MeanItems notation text k 1 s.file.items other.items) same.1
+      (subst (λ (f : File). MeanItems notation text t.known 1 f.items other.items) same.0 t.items)) in
       λ i. record { names = names i; variables = variables i; items = items i }
 
   -- two readings of a text are one
-  pub one_definitions : (one other : Result ReadDefinitions Fault) → IsDefinitions text one
-      → IsDefinitions text other → one ≡ other
+  pub one_definitions : (one other : Result ReadDefinitions Fault) → IsDefinitions notation text one
+      → IsDefinitions notation text other → one ≡ other
   one_definitions (Ok d) (Ok e) s t = ap (λ x. Ok x) (says_one d e s t)
-  one_definitions (Ok d) (Err f) s t = absurd (says_no_fault text d f s t)
-  one_definitions (Err f) (Ok d) s t = absurd (says_no_fault text d f t s)
-  one_definitions (Err f) (Err g) s t = ap (λ x. Err x) (one_file_fault text f g s t)
+  one_definitions (Ok d) (Err f) s t = absurd (says_no_fault laws text d f s t)
+  one_definitions (Err f) (Ok d) s t = absurd (says_no_fault laws text d f t s)
+  one_definitions (Err f) (Err g) s t = ap (λ x. Err x) (one_file_fault laws text f g s t)
 
   -- a right answer is the only one
   pub only_answer : (other : Result ReadDefinitions Fault) (result : Result ReadDefinitions FileError)
-      → IsDefinitions text other → AnswersRight (IsDefinitions text) result → AnswersAs other result
+      → IsDefinitions notation text other → AnswersRight (IsDefinitions notation text) result → AnswersAs other result
   only_answer other (Ok d) s t = one_definitions other (Ok d) s t
   only_answer other (Err (Refused f)) s t = one_definitions other (Err f) s t
   only_answer other (Err NoMemory) s t = tt

@@ -3,7 +3,7 @@ use Rattle.std.proofs.Common.{◌≡◌, ℕ, Bool, true, false, List, [], ◌�
 use Rattle.std.specs.Prelude.{codes}
 use Rattle.term_lex.specs.declared.token.Token.{Token}
 use Rattle.term_lex.specs.declared.token.TokenKind.{TokenKind}
-use Rattle.term_lex.specs.declared.token.TokenKind.TheVariants.{Name, Numeral, Comma, Semicolon, Colon, Dot, Equals, OpenRound, End}
+use Rattle.term_lex.specs.declared.token.TokenKind.TheVariants.{Name, Numeral, Comma, Semicolon, Colon, Dot, Equals, End}
 use Rattle.term_lex.specs.Lexemes.{Lexeme, Reads}
 use Rattle.term_lex.specs.Parts.{IsKind, IsWord, One, Then, BeginsWith, Some, Closed, Separated}
 use Rattle.term_lex.proofs.Marks.{Mark, Kind, Word, disjoint}
@@ -14,7 +14,8 @@ use Rattle.term_lex.proofs.OneTree.{OneTree, separated_one, closed_one}
 use Rattle.term_lex.proofs.Readings.{one_reading}
 use Rattle.def_file.specs.Trees.{SymbolItem, Declares, IncludesClasses, Restriction, InClass, OneOf, Condition, EquationItem, Equates, IncludesOperations, File}
 use Rattle.def_file.specs.Grammar.{IsToken, IsWordAs, IsTermFrom, IsNames, IsIncludeOf, IsDeclaration, IsSymbolItem, IsNameList, IsVariables, IsTerms, IsInClass, IsOneOf, IsRestriction, IsCondition, IsConditions, IsWhere, IsEquation, IsItem, IsFile, IsSomeFile, IsFileText}
-use Rattle.standmath.proofs.Terms.{term_marks}
+use Rattle.written_terms.specs.Notation.{Notation}
+use Rattle.written_terms.proofs.Notations.{term_first, term_more, IsLawful}
 use Rattle.def_file.proofs.Rules
 
 -- ---- one part after another
@@ -45,7 +46,7 @@ some_of G v xs g = (v, g)
 same_pair : {A B : Type 0} (a b : A × B) → a.0 ≡ b.0 → a.1 ≡ b.1 → a ≡ b
 same_pair a b e f = λ i. (e i, f i)
 
--- ---- tokens and terms
+-- ---- tokens
 
 token_one : (k : TokenKind) → OneTree (IsToken k)
 token_one k t u xs (x, e, (is, same)) (y, f, (is', same')) =
@@ -56,10 +57,6 @@ word_one : (w : List ℕ) → OneTree (IsWordAs w)
 word_one w t u xs (x, e, (is, same)) (y, f, (is', same')) =
     let one : x ≡ y = cc in
     sym same ∙ ap (λ (z : Lexeme). z.token) one ∙ same'
-
-term_one : OneTree IsTermFrom
-term_one b c [] (begins, s) t = absurd begins
-term_one b c (x ∷ xs) (begins, s) (begins', t) = sym begins ∙ begins'
 
 -- ---- symbol items
 
@@ -105,13 +102,8 @@ variables_one [] (w ∷ ws) xs s t = absurd (no_colon w ws xs s t)
 variables_one (v ∷ vs) [] xs s t = absurd (no_colon v vs xs t s)
 variables_one (v ∷ vs) (w ∷ ws) xs s t = named_one (v ∷ vs) (w ∷ ws) xs s t
 
--- ---- conditions
-
 in_one : OneTree IsInClass
 in_one n m xs s t = back_one (word_part (codes "in")) (Rules.token_part Name) refl (IsToken Name) (some_of (IsToken Name)) (token_one Name) n m xs s t
-
-terms_one : OneTree IsTerms
-terms_one bs cs xs s t = separated_one (IsWord (codes "or")) IsTermFrom (Word (codes "or")) (λ x k. k) (some_word (codes "or")) (of_word (codes "or")) Rules.side_part refl term_one bs cs xs s t
 
 abbrev EndOr : List Lexeme → Type 0
 EndOr xs = Then (One (IsWord (codes "end"))) (One (IsWord (codes "or"))) xs
@@ -119,178 +111,189 @@ EndOr xs = Then (One (IsWord (codes "end"))) (One (IsWord (codes "or"))) xs
 end_or : IsPart EndOr false (Word (codes "end") ∷ []) []
 end_or = then_part (word_part (codes "end")) (word_part (codes "or")) refl
 
-abbrev TermsEnd : List ℕ → List Lexeme → Type 0
-TermsEnd bs xs = Then (IsTerms bs) EndOr xs
-
-terms_end_one : OneTree TermsEnd
-terms_end_one bs cs xs s t = front_one Rules.terms_part end_or refl IsTerms (some_of IsTerms) terms_one bs cs xs s t
-
-one_of_one : OneTree IsOneOf
-one_of_one bs cs xs s t =
-    back_one (word_part (codes "either")) (then_part Rules.terms_part end_or refl) refl TermsEnd parts terms_end_one bs cs xs s t
-  where
-    parts : (bs : List ℕ) (xs : List Lexeme) → TermsEnd bs xs → Then (Some IsTerms) EndOr xs
-    parts bs xs (f, b, e, ts, end) = (f, b, e, (bs, ts), end)
-
-no_in : (n : Token) (bs : List ℕ) (xs : List Lexeme) → IsInClass n xs → IsOneOf bs xs → ⊥
-no_in n bs xs s t = not_begun (Word (codes "in")) (λ x k. k) Rules.one_of_part refl xs (bs, t) (Rules.in_begun xs (n, s))
-
-restriction_one : OneTree IsRestriction
-restriction_one (InClass n) (InClass m) xs s t = ap (λ k. InClass k) (in_one n m xs s t)
-restriction_one (InClass n) (OneOf bs) xs s t = absurd (no_in n bs xs s t)
-restriction_one (OneOf bs) (InClass n) xs s t = absurd (no_in n bs xs t s)
-restriction_one (OneOf bs) (OneOf cs) xs s t = ap (λ k. OneOf k) (one_of_one bs cs xs s t)
-
-abbrev IsRestricted : Restriction → List Lexeme → Type 0
-IsRestricted r xs = Then (One (IsWord (codes "is"))) (IsRestriction r) xs
-
-restricted_one : OneTree IsRestricted
-restricted_one r q xs s t = back_one (word_part (codes "is")) Rules.restriction_part refl IsRestriction (some_of IsRestriction) restriction_one r q xs s t
-
-condition_one : OneTree IsCondition
-condition_one c d xs s t =
-    let same = both_one (Rules.token_part Name) (then_part (word_part (codes "is")) Rules.restriction_part refl) refl (IsToken Name) IsRestricted (some_of (IsToken Name)) parts (token_one Name) restricted_one c.variable d.variable c.restriction d.restriction xs s t in
-    λ i. record { variable = same.0 i; restriction = same.1 i }
-  where
-    parts : (r : Restriction) (xs : List Lexeme) → IsRestricted r xs → Then (One (IsWord (codes "is"))) (Some IsRestriction) xs
-    parts r xs (f, b, e, w, s) = (f, b, e, w, (r, s))
-
-conditions_one : OneTree (Separated (IsKind Comma) IsCondition)
-conditions_one cs ds xs s t = separated_one (IsKind Comma) IsCondition (Kind Comma) (λ x k. k) (some_of_kind Comma) (of_kind Comma) Rules.condition_part refl condition_one cs ds xs s t
-
 abbrev EndWhere : List Lexeme → Type 0
 EndWhere xs = Then (One (IsWord (codes "end"))) (One (IsWord (codes "where"))) xs
 
 end_where : IsPart EndWhere false (Word (codes "end") ∷ []) []
 end_where = then_part (word_part (codes "end")) (word_part (codes "where")) refl
 
-abbrev ConditionsEnd : List Condition → List Lexeme → Type 0
-ConditionsEnd cs xs = Then (Separated (IsKind Comma) IsCondition cs) EndWhere xs
+-- terms are written in a lawful notation
+module _ {notation : Notation} (laws : IsLawful notation) where
+  term_one : OneTree (IsTermFrom notation)
+  term_one b c [] (begins, s) t = absurd begins
+  term_one b c (x ∷ xs) (begins, s) (begins', t) = sym begins ∙ begins'
 
-conditions_end_one : OneTree ConditionsEnd
-conditions_end_one cs ds xs s t = front_one Rules.conditions_part end_where refl (Separated (IsKind Comma) IsCondition) (some_of (Separated (IsKind Comma) IsCondition)) conditions_one cs ds xs s t
+  -- ---- conditions
 
-qualified_one : OneTree IsConditions
-qualified_one cs ds xs s t =
-    back_one (word_part (codes "where")) Rules.where_tail refl ConditionsEnd parts conditions_end_one cs ds xs s t
-  where
-    parts : (cs : List Condition) (xs : List Lexeme) → ConditionsEnd cs xs → Then (Some (Separated (IsKind Comma) IsCondition)) EndWhere xs
-    parts cs xs (f, b, e, s, end) = (f, b, e, (cs, s), end)
+  terms_one : OneTree (IsTerms notation)
+  terms_one bs cs xs s t = separated_one (IsWord (codes "or")) (IsTermFrom notation) (Word (codes "or")) (λ x k. k) (some_word (codes "or")) (of_word (codes "or")) (Rules.side_part laws) refl term_one bs cs xs s t
 
-no_where : (c : Condition) (cs : List Condition) (xs : List Lexeme) → xs ≡ [] → IsConditions (c ∷ cs) xs → ⊥
-no_where c cs xs none s = subst (BeginsWith (IsWord (codes "where"))) none (Rules.qualified_begun xs (c ∷ cs, s))
+  abbrev TermsEnd : List ℕ → List Lexeme → Type 0
+  TermsEnd bs xs = Then (IsTerms notation bs) EndOr xs
 
-where_one : OneTree IsWhere
-where_one [] [] xs s t = refl
-where_one [] (d ∷ ds) xs s t = absurd (no_where d ds xs s t)
-where_one (c ∷ cs) [] xs s t = absurd (no_where c cs xs t s)
-where_one (c ∷ cs) (d ∷ ds) xs s t = qualified_one (c ∷ cs) (d ∷ ds) xs s t
+  terms_end_one : OneTree TermsEnd
+  terms_end_one bs cs xs s t = front_one (Rules.terms_part laws) end_or refl (IsTerms notation) (some_of (IsTerms notation)) terms_one bs cs xs s t
 
--- ---- items
+  one_of_one : OneTree (IsOneOf notation)
+  one_of_one bs cs xs s t =
+      back_one (word_part (codes "either")) (then_part (Rules.terms_part laws) end_or refl) refl TermsEnd parts terms_end_one bs cs xs s t
+    where
+      parts : (bs : List ℕ) (xs : List Lexeme) → TermsEnd bs xs → Then (Some (IsTerms notation)) EndOr xs
+      parts bs xs (f, b, e, ts, end) = (f, b, e, (bs, ts), end)
 
-abbrev RightWhere : ℕ × List Condition → List Lexeme → Type 0
-RightWhere r xs = Then (IsTermFrom r.0) (IsWhere r.1) xs
+  no_in : (n : Token) (bs : List ℕ) (xs : List Lexeme) → IsInClass n xs → IsOneOf notation bs xs → ⊥
+  no_in n bs xs s t = not_begun (Word (codes "in")) (λ x k. k) (Rules.one_of_part laws) refl xs (bs, t) (Rules.in_begun xs (n, s))
 
-right_where : IsPart (Then (Some IsTermFrom) (Some IsWhere)) false term_marks (Word (codes "where") ∷ Kind OpenRound ∷ [])
-right_where = then_part Rules.side_part Rules.where_part refl
+  restriction_one : OneTree (IsRestriction notation)
+  restriction_one (InClass n) (InClass m) xs s t = ap (λ k. InClass k) (in_one n m xs s t)
+  restriction_one (InClass n) (OneOf bs) xs s t = absurd (no_in n bs xs s t)
+  restriction_one (OneOf bs) (InClass n) xs s t = absurd (no_in n bs xs t s)
+  restriction_one (OneOf bs) (OneOf cs) xs s t = ap (λ k. OneOf k) (one_of_one bs cs xs s t)
 
-right_where_one : OneTree RightWhere
-right_where_one r q xs s t =
-    let same = both_one Rules.side_part Rules.where_part refl IsTermFrom IsWhere (some_of IsTermFrom) (some_of IsWhere) term_one where_one r.0 q.0 r.1 q.1 xs s t in
-    same_pair r q same.0 same.1
+  abbrev IsRestricted : Restriction → List Lexeme → Type 0
+  IsRestricted r xs = Then (One (IsWord (codes "is"))) (IsRestriction notation r) xs
 
-abbrev EqualsRight : ℕ × List Condition → List Lexeme → Type 0
-EqualsRight r xs = Then (One (IsKind Equals)) (RightWhere r) xs
+  restricted_one : OneTree IsRestricted
+  restricted_one r q xs s t = back_one (word_part (codes "is")) (Rules.restriction_part laws) refl (IsRestriction notation) (some_of (IsRestriction notation)) restriction_one r q xs s t
 
-right_parts : (r : ℕ × List Condition) (xs : List Lexeme) → RightWhere r xs → Then (Some IsTermFrom) (Some IsWhere) xs
-right_parts r xs (f, b, e, t, w) = (f, b, e, (r.0, t), (r.1, w))
+  condition_one : OneTree (IsCondition notation)
+  condition_one c d xs s t =
+      let same = both_one (Rules.token_part Name) (then_part (word_part (codes "is")) (Rules.restriction_part laws) refl) refl (IsToken Name) IsRestricted (some_of (IsToken Name)) parts (token_one Name) restricted_one c.variable d.variable c.restriction d.restriction xs s t in
+      λ i. record { variable = same.0 i; restriction = same.1 i }
+    where
+      parts : (r : Restriction) (xs : List Lexeme) → IsRestricted r xs → Then (One (IsWord (codes "is"))) (Some (IsRestriction notation)) xs
+      parts r xs (f, b, e, w, s) = (f, b, e, w, (r, s))
 
-equals_right_one : OneTree EqualsRight
-equals_right_one r q xs s t = back_one (kind_part Equals) right_where refl RightWhere right_parts right_where_one r q xs s t
+  conditions_one : OneTree (Separated (IsKind Comma) (IsCondition notation))
+  conditions_one cs ds xs s t = separated_one (IsKind Comma) (IsCondition notation) (Kind Comma) (λ x k. k) (some_of_kind Comma) (of_kind Comma) (Rules.condition_part laws) refl condition_one cs ds xs s t
 
-equation_one : OneTree IsEquation
-equation_one l m xs s t =
-    let same = both_one Rules.side_part (then_part (kind_part Equals) right_where refl) refl IsTermFrom EqualsRight (some_of IsTermFrom) parts term_one equals_right_one l.left m.left (l.right, l.conditions) (m.right, m.conditions) xs s t in
-    λ i. record { left = same.0 i; right = (same.1 i).0; conditions = (same.1 i).1 }
-  where
-    parts : (r : ℕ × List Condition) (xs : List Lexeme) → EqualsRight r xs → Then (One (IsKind Equals)) (Then (Some IsTermFrom) (Some IsWhere)) xs
-    parts r xs (f, b, e, c, s) = (f, b, e, c, right_parts r b s)
+  abbrev ConditionsEnd : List Condition → List Lexeme → Type 0
+  ConditionsEnd cs xs = Then (Separated (IsKind Comma) (IsCondition notation) cs) EndWhere xs
 
-item_one : OneTree IsItem
-item_one (Equates l) (Equates m) xs (other, s) (other', t) = ap (λ k. Equates k) (equation_one l m xs s t)
-item_one (Equates l) (IncludesOperations u ns) xs (other, s) t = absurd (other (Rules.include_begun xs ((u, ns), t)))
-item_one (IncludesOperations u ns) (Equates l) xs s (other, t) = absurd (other (Rules.include_begun xs ((u, ns), s)))
-item_one (IncludesOperations t ns) (IncludesOperations u ms) xs s r = let same = include_one t u ns ms xs s r in λ i. IncludesOperations (same.0 i) (same.1 i)
+  conditions_end_one : OneTree ConditionsEnd
+  conditions_end_one cs ds xs s t = front_one (Rules.conditions_part laws) end_where refl (Separated (IsKind Comma) (IsCondition notation)) (some_of (Separated (IsKind Comma) (IsCondition notation))) conditions_one cs ds xs s t
 
-items_one : OneTree (Closed (IsKind Semicolon) (IsKind Dot) IsItem)
-items_one vs ws xs s t = closed_one (IsKind Semicolon) (IsKind Dot) IsItem (Kind Semicolon) (Kind Dot) (λ x k. k) (λ x k. k) (some_of_kind Semicolon) (of_kind Semicolon) (some_of_kind Dot) (of_kind Dot) Rules.item_part refl refl item_one vs ws xs s t
+  qualified_one : OneTree (IsConditions notation)
+  qualified_one cs ds xs s t =
+      back_one (word_part (codes "where")) (Rules.where_tail laws) refl ConditionsEnd parts conditions_end_one cs ds xs s t
+    where
+      parts : (cs : List Condition) (xs : List Lexeme) → ConditionsEnd cs xs → Then (Some (Separated (IsKind Comma) (IsCondition notation))) EndWhere xs
+      parts cs xs (f, b, e, s, end) = (f, b, e, (cs, s), end)
 
--- ---- the file
+  no_where : (c : Condition) (cs : List Condition) (xs : List Lexeme) → xs ≡ [] → IsConditions notation (c ∷ cs) xs → ⊥
+  no_where c cs xs none s = subst (BeginsWith (IsWord (codes "where"))) none (Rules.qualified_begun laws xs (c ∷ cs, s))
 
-abbrev ItemsEnd : List EquationItem → List Lexeme → Type 0
-ItemsEnd is xs = Then (Closed (IsKind Semicolon) (IsKind Dot) IsItem is) (One (IsKind End)) xs
+  where_one : OneTree (IsWhere notation)
+  where_one [] [] xs s t = refl
+  where_one [] (d ∷ ds) xs s t = absurd (no_where d ds xs s t)
+  where_one (c ∷ cs) [] xs s t = absurd (no_where c cs xs t s)
+  where_one (c ∷ cs) (d ∷ ds) xs s t = qualified_one (c ∷ cs) (d ∷ ds) xs s t
 
-items_parts : (is : List EquationItem) (xs : List Lexeme) → ItemsEnd is xs → Rules.FromItems xs
-items_parts is xs (f, b, e, s, end) = (f, b, e, (is, s), end)
+  -- ---- items
 
-items_end_one : OneTree ItemsEnd
-items_end_one is js xs s t = front_one Rules.items_part (kind_part End) refl (Closed (IsKind Semicolon) (IsKind Dot) IsItem) (some_of (Closed (IsKind Semicolon) (IsKind Dot) IsItem)) items_one is js xs s t
+  abbrev RightWhere : ℕ × List Condition → List Lexeme → Type 0
+  RightWhere r xs = Then (IsTermFrom notation r.0) (IsWhere notation r.1) xs
 
-abbrev Equations : List Token × List EquationItem → List Lexeme → Type 0
-Equations r xs = Then (IsVariables r.0) (ItemsEnd r.1) xs
+  right_where : IsPart (Then (Some (IsTermFrom notation)) (Some (IsWhere notation))) false term_first (Word (codes "where") ∷ term_more)
+  right_where = then_part (Rules.side_part laws) (Rules.where_part laws) refl
 
-equations_parts : (r : List Token × List EquationItem) (xs : List Lexeme) → Equations r xs → Rules.FromVariables xs
-equations_parts r xs (f, b, e, v, s) = (f, b, e, (r.0, v), items_parts r.1 b s)
+  right_where_one : OneTree RightWhere
+  right_where_one r q xs s t =
+      let same = both_one (Rules.side_part laws) (Rules.where_part laws) refl (IsTermFrom notation) (IsWhere notation) (some_of (IsTermFrom notation)) (some_of (IsWhere notation)) term_one where_one r.0 q.0 r.1 q.1 xs s t in
+      same_pair r q same.0 same.1
 
-equations_one : OneTree Equations
-equations_one r q xs s t =
-    let same = both_one Rules.variables_part Rules.from_items refl IsVariables ItemsEnd (some_of IsVariables) items_parts variables_one items_end_one r.0 q.0 r.1 q.1 xs s t in
-    same_pair r q same.0 same.1
+  abbrev EqualsRight : ℕ × List Condition → List Lexeme → Type 0
+  EqualsRight r xs = Then (One (IsKind Equals)) (RightWhere r) xs
 
-abbrev AllEquations : List Token × List EquationItem → List Lexeme → Type 0
-AllEquations r xs = Then (One (IsWord (codes "all"))) (Equations r) xs
+  right_parts : (r : ℕ × List Condition) (xs : List Lexeme) → RightWhere r xs → Then (Some (IsTermFrom notation)) (Some (IsWhere notation)) xs
+  right_parts r xs (f, b, e, t, w) = (f, b, e, (r.0, t), (r.1, w))
 
-all_parts : (r : List Token × List EquationItem) (xs : List Lexeme) → AllEquations r xs → Rules.FromAll xs
-all_parts r xs (f, b, e, w, s) = (f, b, e, w, equations_parts r b s)
+  equals_right_one : OneTree EqualsRight
+  equals_right_one r q xs s t = back_one (kind_part Equals) right_where refl RightWhere right_parts right_where_one r q xs s t
 
-all_one : OneTree AllEquations
-all_one r q xs s t = back_one (word_part (codes "all")) Rules.from_variables refl Equations equations_parts equations_one r q xs s t
+  equation_one : OneTree (IsEquation notation)
+  equation_one l m xs s t =
+      let same = both_one (Rules.side_part laws) (then_part (kind_part Equals) right_where refl) refl (IsTermFrom notation) EqualsRight (some_of (IsTermFrom notation)) parts term_one equals_right_one l.left m.left (l.right, l.conditions) (m.right, m.conditions) xs s t in
+      λ i. record { left = same.0 i; right = (same.1 i).0; conditions = (same.1 i).1 }
+    where
+      parts : (r : ℕ × List Condition) (xs : List Lexeme) → EqualsRight r xs → Then (One (IsKind Equals)) (Then (Some (IsTermFrom notation)) (Some (IsWhere notation))) xs
+      parts r xs (f, b, e, c, s) = (f, b, e, c, right_parts r b s)
 
-abbrev ForEquations : List Token × List EquationItem → List Lexeme → Type 0
-ForEquations r xs = Then (One (IsWord (codes "For"))) (AllEquations r) xs
+  item_one : OneTree (IsItem notation)
+  item_one (Equates l) (Equates m) xs (other, s) (other', t) = ap (λ k. Equates k) (equation_one l m xs s t)
+  item_one (Equates l) (IncludesOperations u ns) xs (other, s) t = absurd (other (Rules.include_begun xs ((u, ns), t)))
+  item_one (IncludesOperations u ns) (Equates l) xs s (other, t) = absurd (other (Rules.include_begun xs ((u, ns), s)))
+  item_one (IncludesOperations t ns) (IncludesOperations u ms) xs s r = let same = include_one t u ns ms xs s r in λ i. IncludesOperations (same.0 i) (same.1 i)
 
-for_parts : (r : List Token × List EquationItem) (xs : List Lexeme) → ForEquations r xs → Rules.FromFor xs
-for_parts r xs (f, b, e, w, s) = (f, b, e, w, all_parts r b s)
+  items_one : OneTree (Closed (IsKind Semicolon) (IsKind Dot) (IsItem notation))
+  items_one vs ws xs s t = closed_one (IsKind Semicolon) (IsKind Dot) (IsItem notation) (Kind Semicolon) (Kind Dot) (λ x k. k) (λ x k. k) (some_of_kind Semicolon) (of_kind Semicolon) (some_of_kind Dot) (of_kind Dot) (Rules.item_part laws) refl refl item_one vs ws xs s t
 
-for_one : OneTree ForEquations
-for_one r q xs s t = back_one (word_part (codes "For")) Rules.from_all refl AllEquations all_parts all_one r q xs s t
+  -- ---- the file
 
-abbrev Sections : List SymbolItem × (List Token × List EquationItem) → List Lexeme → Type 0
-Sections r xs = Then (Closed (IsKind Semicolon) (IsKind Dot) IsSymbolItem r.0) (ForEquations r.1) xs
+  abbrev ItemsEnd : List EquationItem → List Lexeme → Type 0
+  ItemsEnd is xs = Then (Closed (IsKind Semicolon) (IsKind Dot) (IsItem notation) is) (One (IsKind End)) xs
 
-sections_parts : (r : List SymbolItem × (List Token × List EquationItem)) (xs : List Lexeme) → Sections r xs → Rules.FromSymbolItems xs
-sections_parts r xs (f, b, e, s, t) = (f, b, e, (r.0, s), for_parts r.1 b t)
+  items_parts : (is : List EquationItem) (xs : List Lexeme) → ItemsEnd is xs → Rules.FromItems laws xs
+  items_parts is xs (f, b, e, s, end) = (f, b, e, (is, s), end)
 
-sections_one : OneTree Sections
-sections_one r q xs s t =
-    let same = both_one Rules.symbols_part Rules.from_for refl (Closed (IsKind Semicolon) (IsKind Dot) IsSymbolItem) ForEquations (some_of (Closed (IsKind Semicolon) (IsKind Dot) IsSymbolItem)) for_parts symbols_one for_one r.0 q.0 r.1 q.1 xs s t in
-    same_pair r q same.0 same.1
+  items_end_one : OneTree ItemsEnd
+  items_end_one is js xs s t = front_one (Rules.items_part laws) (kind_part End) refl (Closed (IsKind Semicolon) (IsKind Dot) (IsItem notation)) (some_of (Closed (IsKind Semicolon) (IsKind Dot) (IsItem notation))) items_one is js xs s t
 
-pub file_tree_one : OneTree IsFile
-file_tree_one v w xs s t =
-    let same = back_one (word_part (codes "Symbols")) Rules.from_symbol_items refl Sections sections_parts sections_one (v.symbols, (v.variables, v.items)) (w.symbols, (w.variables, w.items)) xs s t in
-    λ i. record { symbols = (same i).0; variables = (same i).1.0; items = (same i).1.1 }
+  abbrev Equations : List Token × List EquationItem → List Lexeme → Type 0
+  Equations r xs = Then (IsVariables r.0) (ItemsEnd r.1) xs
 
--- nothing goes on behind a file
-pub file_part : IsPart (Some IsFile) false (Word (codes "Symbols") ∷ []) []
-file_part = same_part Rules.file_to Rules.file_from (then_part (word_part (codes "Symbols")) Rules.from_symbol_items refl)
+  equations_parts : (r : List Token × List EquationItem) (xs : List Lexeme) → Equations r xs → Rules.FromVariables laws xs
+  equations_parts r xs (f, b, e, v, s) = (f, b, e, (r.0, v), items_parts r.1 b s)
 
-module _ (text : List ℕ) where
-  pub file_reads : (f : File) (r : IsFileText text f) → Reads IsSomeFile text 0 r.lexemes r.end
-  file_reads f r = record { scanned = r.scanned; sentence = (f, r.spelled); longest = λ next found viable. file_part.goes_on r.lexemes next (f, r.spelled) viable }
+  equations_one : OneTree Equations
+  equations_one r q xs s t =
+      let same = both_one Rules.variables_part (Rules.from_items laws) refl IsVariables ItemsEnd (some_of IsVariables) items_parts variables_one items_end_one r.0 q.0 r.1 q.1 xs s t in
+      same_pair r q same.0 same.1
 
-  -- a text is one file
-  pub one_file : (f g : File) → IsFileText text f → IsFileText text g → f ≡ g
-  one_file f g r s =
-      let same = one_reading IsSomeFile text 0 r.lexemes s.lexemes r.end s.end (file_reads f r) (file_reads g s) in
-      file_tree_one f g r.lexemes r.spelled (subst (IsFile g) (sym same.0) s.spelled)
+  abbrev AllEquations : List Token × List EquationItem → List Lexeme → Type 0
+  AllEquations r xs = Then (One (IsWord (codes "all"))) (Equations r) xs
+
+  all_parts : (r : List Token × List EquationItem) (xs : List Lexeme) → AllEquations r xs → Rules.FromAll laws xs
+  all_parts r xs (f, b, e, w, s) = (f, b, e, w, equations_parts r b s)
+
+  all_one : OneTree AllEquations
+  all_one r q xs s t = back_one (word_part (codes "all")) (Rules.from_variables laws) refl Equations equations_parts equations_one r q xs s t
+
+  abbrev ForEquations : List Token × List EquationItem → List Lexeme → Type 0
+  ForEquations r xs = Then (One (IsWord (codes "For"))) (AllEquations r) xs
+
+  for_parts : (r : List Token × List EquationItem) (xs : List Lexeme) → ForEquations r xs → Rules.FromFor laws xs
+  for_parts r xs (f, b, e, w, s) = (f, b, e, w, all_parts r b s)
+
+  for_one : OneTree ForEquations
+  for_one r q xs s t = back_one (word_part (codes "For")) (Rules.from_all laws) refl AllEquations all_parts all_one r q xs s t
+
+  abbrev Sections : List SymbolItem × (List Token × List EquationItem) → List Lexeme → Type 0
+  Sections r xs = Then (Closed (IsKind Semicolon) (IsKind Dot) IsSymbolItem r.0) (ForEquations r.1) xs
+
+  sections_parts : (r : List SymbolItem × (List Token × List EquationItem)) (xs : List Lexeme) → Sections r xs → Rules.FromSymbolItems laws xs
+  sections_parts r xs (f, b, e, s, t) = (f, b, e, (r.0, s), for_parts r.1 b t)
+
+  sections_one : OneTree Sections
+  sections_one r q xs s t =
+      let same = both_one Rules.symbols_part (Rules.from_for laws) refl (Closed (IsKind Semicolon) (IsKind Dot) IsSymbolItem) ForEquations (some_of (Closed (IsKind Semicolon) (IsKind Dot) IsSymbolItem)) for_parts symbols_one for_one r.0 q.0 r.1 q.1 xs s t in
+      same_pair r q same.0 same.1
+
+  pub file_tree_one : OneTree (IsFile notation)
+  file_tree_one v w xs s t =
+      let same = back_one (word_part (codes "Symbols")) (Rules.from_symbol_items laws) refl Sections sections_parts sections_one (v.symbols, (v.variables, v.items)) (w.symbols, (w.variables, w.items)) xs s t in
+      λ i. record { symbols = (same i).0; variables = (same i).1.0; items = (same i).1.1 }
+
+  -- nothing goes on behind a file
+  pub file_part : IsPart (Some (IsFile notation)) false (Word (codes "Symbols") ∷ []) []
+  file_part = same_part (Rules.file_to laws) (Rules.file_from laws) (then_part (word_part (codes "Symbols")) (Rules.from_symbol_items laws) refl)
+
+  module _ (text : List ℕ) where
+    pub file_reads : (f : File) (r : IsFileText notation text f) → Reads (IsSomeFile notation) text 0 r.lexemes r.end
+    file_reads f r = record { scanned = r.scanned; sentence = (f, r.spelled); longest = λ next found viable. file_part.goes_on r.lexemes next (f, r.spelled) viable }
+
+    -- a text is one file
+    pub one_file : (f g : File) → IsFileText notation text f → IsFileText notation text g → f ≡ g
+    one_file f g r s =
+        let same = one_reading (IsSomeFile notation) text 0 r.lexemes s.lexemes r.end s.end (file_reads f r) (file_reads g s) in
+        file_tree_one f g r.lexemes r.spelled (subst (IsFile notation g) (sym same.0) s.spelled)

@@ -18,8 +18,10 @@ use Rattle.symbol_table.specs.Table.{Table, IsDeclared, Includes, HasName, HasTr
 use Rattle.symbol_table.specs.Refusing.{RefusesDeclaration, RefusesInclude, RefusesVariable}
 use Rattle.symbol_table.proofs.Growing.{with_symbol, with_class, distinct-with_symbol, distinct-with_class}
 use Rattle.symbol_table.proofs.Keys.{AreDistinct-push}
-use Rattle.standmath.specs.Refusing.{IsPatternAt, RefusesPattern}
-use Rattle.standmath.proofs.OneReading.{one_pattern_at}
+use Rattle.written_terms.specs.Notation.{Notation}
+use Rattle.written_terms.specs.Refusing.{IsPatternAt, RefusesPattern}
+use Rattle.written_terms.proofs.Notations.{IsLawful}
+use Rattle.written_terms.proofs.OneReading.{one_pattern_at}
 use Rattle.def_file.specs.Operations.{operation_name, HasNeeds}
 use Rattle.def_file.specs.Names.{Place, Symbol, Class, Variable, Term, Qualified, ClassOf, Operation, Known, nothing_known, token_bytes, Takes, Refuses, TakesAll, RefusesFirst, RefusesSymbol, RefusesQualified, RefusesClassOf, RefusesOperation}
 use Rattle.def_file.specs.Sides.{IsPattern}
@@ -97,10 +99,10 @@ nothing_once = record {
 abbrev known_by : Table → List (List ℕ) → List Op → Known
 known_by table variables operations = record { table = table; variables = variables; operations = operations }
 
-module _ (text : List ℕ) where
+module _ {notation : Notation} (laws : IsLawful notation) (text : List ℕ) where
   -- ---- what is taken
 
-  takes_once : (p : Place) (a b : Known) → AreOnce a → Takes text a p b → AreOnce b
+  takes_once : (p : Place) (a b : Known) → AreOnce a → Takes notation text a p b → AreOnce b
   takes_once (Symbol name arity) a b o (number, d, e) =
       let names = subst HasDistinctNames (sym d.added)
       (distinct-with_symbol a.table (token_bytes text name) d.arguments o.names d.fresh) in
@@ -120,7 +122,7 @@ module _ (text : List ℕ) where
       subst AreOnce (sym e) (record { names = o.names; variables = o.variables })
 
   -- what is known behind a place is one
-  takes_one : (p : Place) (a b c : Known) → Takes text a p b → Takes text a p c → b ≡ c
+  takes_one : (p : Place) (a b c : Known) → Takes notation text a p b → Takes notation text a p c → b ≡ c
   takes_one (Symbol name arity) a b c (number, s, e) (other, t, f) =
       let counted : pos s.arguments ≡ pos t.arguments = sym s.counted ∙ t.counted in
       let arguments : s.arguments ≡ t.arguments = cc in
@@ -139,22 +141,22 @@ module _ (text : List ℕ) where
       let same = one_operation (token_bytes text name) op op' named named' in
       e ∙ ap (λ o. known_by a.table a.variables (a.operations ++ o ∷ [])) same ∙ sym f
 
-  all_once : (ps : List Place) (a b : Known) → AreOnce a → TakesAll text a ps b → AreOnce b
+  all_once : (ps : List Place) (a b : Known) → AreOnce a → TakesAll notation text a ps b → AreOnce b
   all_once [] a b o e = subst AreOnce (sym e) o
   all_once (p ∷ ps) a b o (next, t, ts) = all_once ps next b (takes_once p a next o t) ts
 
-  all_one : (ps : List Place) (a b c : Known) → TakesAll text a ps b → TakesAll text a ps c → b ≡ c
+  all_one : (ps : List Place) (a b c : Known) → TakesAll notation text a ps b → TakesAll notation text a ps c → b ≡ c
   all_one [] a b c e f = e ∙ sym f
   all_one (p ∷ ps) a b c (next, t, ts) (other, u, us) =
-      all_one ps next b c ts (subst (λ k. TakesAll text k ps c) (takes_one p a other next u t) us)
+      all_one ps next b c ts (subst (λ k. TakesAll notation text k ps c) (takes_one p a other next u t) us)
 
   -- behind names that have no fault, what is known is one
-  pub one_naming : (places : List Place) (one other : Known) → TakesAll text nothing_known places one
-      → TakesAll text nothing_known places other → one ≡ other
+  pub one_naming : (places : List Place) (one other : Known) → TakesAll notation text nothing_known places one
+      → TakesAll notation text nothing_known places other → one ≡ other
   one_naming places one other t u = all_one places nothing_known one other t u
 
   -- and no name is declared or listed twice
-  pub distinct_names : (places : List Place) (known : Known) → TakesAll text nothing_known places known
+  pub distinct_names : (places : List Place) (known : Known) → TakesAll notation text nothing_known places known
       → AreOnce known
   distinct_names places known t = all_once places nothing_known known nothing_once t
 
@@ -164,13 +166,13 @@ module _ (text : List ℕ) where
   Answer = Result (Tree (PatternCell ReadHead) × ℕ) Fault
 
   module _ (known : Known) (once : AreOnce known) (byte : ℕ) where
-    one_answer : (r s : Answer) → IsPatternAt known.table known.variables text byte r
-        → IsPatternAt known.table known.variables text byte s → r ≡ s
-    one_answer r s = one_pattern_at known.table once.names text byte known.variables once.variables r s
+    one_answer : (r s : Answer) → IsPatternAt notation known.table known.variables text byte r
+        → IsPatternAt notation known.table known.variables text byte s → r ≡ s
+    one_answer r s = one_pattern_at notation laws known.table once.names text byte known.variables once.variables r s
 
     -- one pattern is read at a place
-    pub pattern_one : (p q : Tree (PatternCell ReadHead)) → IsPattern text known byte p
-        → IsPattern text known byte q → p ≡ q
+    pub pattern_one : (p q : Tree (PatternCell ReadHead)) → IsPattern notation text known byte p
+        → IsPattern notation text known byte q → p ≡ q
     pattern_one p q (end, r) (end', s) =
         let same : ◌≡◌ {A = Answer} (Ok (p, end)) (Ok (q, end')) =
         one_answer (Ok (p, end)) (Ok (q, end')) r s in
@@ -178,13 +180,13 @@ module _ (text : List ℕ) where
         ap (λ (x : Tree (PatternCell ReadHead) × ℕ). x.0) pair
 
     -- which is not refused
-    read_or_refused : (p : Tree (PatternCell ReadHead)) (f : Fault) → IsPattern text known byte p
-        → RefusesPattern known.table known.variables text byte f → ⊥
+    read_or_refused : (p : Tree (PatternCell ReadHead)) (f : Fault) → IsPattern notation text known byte p
+        → RefusesPattern notation known.table known.variables text byte f → ⊥
     read_or_refused p f (end, r) why =
         let same : ◌≡◌ {A = Answer} (Ok (p, end)) (Err f) = one_answer (Ok (p, end)) (Err f) r why in cc
 
-    one_refusal : (f g : Fault) → RefusesPattern known.table known.variables text byte f
-        → RefusesPattern known.table known.variables text byte g → f ≡ g
+    one_refusal : (f g : Fault) → RefusesPattern notation known.table known.variables text byte f
+        → RefusesPattern notation known.table known.variables text byte g → f ≡ g
     one_refusal f g why why' =
         let same : ◌≡◌ {A = Answer} (Err f) (Err g) = one_answer (Err f) (Err g) why why' in cc
 
@@ -245,8 +247,8 @@ module _ (text : List ℕ) where
         lacks (subst (HasNeeds known.table) (one_operation name op other named named') needs)
     operation_or_refused op kind named fresh needs why = why
 
-  taken_or_refused : (p : Place) (a b : Known) (f : Fault) → AreOnce a → Takes text a p b
-      → Refuses text a p f → ⊥
+  taken_or_refused : (p : Place) (a b : Known) (f : Fault) → AreOnce a → Takes notation text a p b
+      → Refuses notation text a p f → ⊥
   taken_or_refused (Symbol name arity) a b f o (number, s, e) (why, place) =
       declared_or_refused a.table (token_bytes text name) (numeral_value (token_bytes text arity)) s.arguments
       f.kind s.counted s.fits s.fresh why
@@ -325,8 +327,8 @@ module _ (text : List ℕ) where
     one_declaration f g (why, inr (kind, byte)) (why', inr (kind', byte')) =
         same_fault f g (kind ∙ sym kind') (byte ∙ sym byte')
 
-  one_refused_place : (p : Place) (a : Known) (f g : Fault) → AreOnce a → Refuses text a p f
-      → Refuses text a p g → f ≡ g
+  one_refused_place : (p : Place) (a : Known) (f g : Fault) → AreOnce a → Refuses notation text a p f
+      → Refuses notation text a p g → f ≡ g
   one_refused_place (Symbol name arity) a f g o why why' = one_declaration a.table name arity f g why why'
   one_refused_place (Class name) a f g o (why, place) (why', place') =
       same_fault f g (one_include a.table (token_bytes text name) f.kind g.kind why why') (place ∙ sym place')
@@ -345,19 +347,19 @@ module _ (text : List ℕ) where
   -- ---- one place after another
 
   -- the rest of the places is refused behind what was taken
-  behind : (p : Place) (ps : List Place) (a next other : Known) (f : Fault) → Takes text a p next
-      → Takes text a p other → RefusesFirst text other ps f → RefusesFirst text next ps f
-  behind p ps a next other f t u r = subst (λ k. RefusesFirst text k ps f) (takes_one p a other next u t) r
+  behind : (p : Place) (ps : List Place) (a next other : Known) (f : Fault) → Takes notation text a p next
+      → Takes notation text a p other → RefusesFirst notation text other ps f → RefusesFirst notation text next ps f
+  behind p ps a next other f t u r = subst (λ k. RefusesFirst notation text k ps f) (takes_one p a other next u t) r
 
-  all_or_refused : (ps : List Place) (a b : Known) (f : Fault) → AreOnce a → TakesAll text a ps b
-      → RefusesFirst text a ps f → ⊥
+  all_or_refused : (ps : List Place) (a b : Known) (f : Fault) → AreOnce a → TakesAll notation text a ps b
+      → RefusesFirst notation text a ps f → ⊥
   all_or_refused [] a b f o t r = r
   all_or_refused (p ∷ ps) a b f o (next, t, ts) (inl r) = taken_or_refused p a next f o t r
   all_or_refused (p ∷ ps) a b f o (next, t, ts) (inr (other, u, r)) =
       all_or_refused ps next b f (takes_once p a next o t) ts (behind p ps a next other f t u r)
 
-  one_first_refused : (ps : List Place) (a : Known) (f g : Fault) → AreOnce a → RefusesFirst text a ps f
-      → RefusesFirst text a ps g → f ≡ g
+  one_first_refused : (ps : List Place) (a : Known) (f g : Fault) → AreOnce a → RefusesFirst notation text a ps f
+      → RefusesFirst notation text a ps g → f ≡ g
   one_first_refused [] a f g o r s = absurd r
   one_first_refused (p ∷ ps) a f g o (inl r) (inl s) = one_refused_place p a f g o r s
   one_first_refused (p ∷ ps) a f g o (inl r) (inr (next, t, s)) = absurd (taken_or_refused p a next f o t r)
@@ -367,10 +369,10 @@ module _ (text : List ℕ) where
 
   -- names that have no fault are not refused
   pub named_or_refused : (places : List Place) (known : Known) (f : Fault)
-      → TakesAll text nothing_known places known → RefusesFirst text nothing_known places f → ⊥
+      → TakesAll notation text nothing_known places known → RefusesFirst notation text nothing_known places f → ⊥
   named_or_refused places known f t r = all_or_refused places nothing_known known f nothing_once t r
 
   -- names that have a fault have one first fault
-  pub one_name_fault : (places : List Place) (f g : Fault) → RefusesFirst text nothing_known places f
-      → RefusesFirst text nothing_known places g → f ≡ g
+  pub one_name_fault : (places : List Place) (f g : Fault) → RefusesFirst notation text nothing_known places f
+      → RefusesFirst notation text nothing_known places g → f ≡ g
   one_name_fault places f g r s = one_first_refused places nothing_known f g nothing_once r s

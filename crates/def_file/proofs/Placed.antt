@@ -2,6 +2,7 @@
 use Rattle.std.proofs.Common.{◌≡◌, ℕ, ◌≤◌, List, [], ◌∷◌, ◌++◌, length, map, sym, subst, inl, inr, Ok, arith}
 use Rattle.std.specs.Prelude.{codes}
 use Rattle.std.specs.List.{AllByRecursion, flat_map}
+use Rattle.eq_base.proofs.Lists.{all_both}
 use Rattle.term_lex.specs.declared.token.Token.{Token}
 use Rattle.term_lex.specs.declared.token.TokenKind.{TokenKind}
 use Rattle.term_lex.specs.declared.token.TokenKind.TheVariants.{Name, Numeral, Comma, Semicolon, Dot}
@@ -10,21 +11,18 @@ use Rattle.term_lex.specs.Lexemes.{Lexeme, Scans}
 use Rattle.term_lex.specs.Parts.{IsKind, IsWord, Each, Led, Separated, Closed}
 use Rattle.term_lex.proofs.Tokens.{token_within}
 use Rattle.term_lex.proofs.LiteralTokens.{within_text}
+use Rattle.written_terms.specs.Notation.{Notation}
 use Rattle.def_file.specs.Trees.{SymbolItem, Declares, IncludesClasses, Restriction, InClass, OneOf, Condition, Sides, EquationItem, Equates, IncludesOperations, File}
 use Rattle.def_file.specs.Grammar.{IsToken, IsTermFrom, IsNames, IsIncludeOf, IsSymbolItem, IsVariables, IsRestriction, IsCondition, IsWhere, IsEquation, IsItem, IsFile}
 use Rattle.def_file.specs.Names.{Class, Variable, Term, Operation, symbol_places, restriction_places, condition_places, equation_places, item_places}
 use Rattle.def_file.specs.Naming.{IsPlaced, ArePlaced}
 use Rattle.def_file.proofs.Namings.{all_split}
 
-all_join : {A : Type 0} (P : A → Type 0) (xs ys : List A) → AllByRecursion P xs → AllByRecursion P ys → AllByRecursion P (xs ++ ys)
-all_join P [] ys a b = b
-all_join P (x ∷ xs) ys (h, hs) b = (h, all_join P xs ys hs b)
-
 all_flat : {A B : Type 0} (P : B → Type 0) (f : A → List B) (xs : List A) → AllByRecursion (λ x. AllByRecursion P (f x)) xs → AllByRecursion P (flat_map f xs)
 all_flat P f [] a = tt
-all_flat P f (x ∷ xs) (h, hs) = all_join P (f x) (flat_map f xs) h (all_flat P f xs hs)
+all_flat P f (x ∷ xs) (h, hs) = all_both P (f x) (flat_map f xs) h (all_flat P f xs hs)
 
-module _ (text : List ℕ) where
+module _ (notation : Notation) (text : List ℕ) where
   -- each of the lexemes is a token of the text
   abbrev Held : List Lexeme → Type 0
   Held xs = AllByRecursion (λ x. IsTokenOf text x.token) xs
@@ -43,7 +41,7 @@ module _ (text : List ℕ) where
   token_placed : (k : TokenKind) (t : Token) (xs : List Lexeme) → Held xs → IsToken k t xs → IsTokenOf text t × (t.kind ≡ k)
   token_placed k t xs h (x, e, (kind, same)) = let one = (subst Held e h).0 in (subst (IsTokenOf text) same one, subst (λ (u : Token). u.kind ≡ k) same kind)
 
-  term_placed : (byte : ℕ) (xs : List Lexeme) → Held xs → IsTermFrom byte xs → byte ≤ length text
+  term_placed : (byte : ℕ) (xs : List Lexeme) → Held xs → IsTermFrom notation byte xs → byte ≤ length text
   term_placed byte [] h (b, s) = absurd b
   term_placed byte (x ∷ xs) (h, hs) (b, s) = let w = within_text text x.token h in omega (arith, w.0, w.1, b)
 
@@ -93,35 +91,35 @@ module _ (text : List ℕ) where
       (((token_placed Name name f (held_first xs f b e h) n).0, numeral), tt)
   symbol_item_placed (IncludesClasses include names) xs h i = classes_placed names (include_placed include names xs h i)
 
-  restriction_placed : (r : Restriction) (xs : List Lexeme) → Held xs → IsRestriction r xs → ArePlaced text (restriction_places r)
+  restriction_placed : (r : Restriction) (xs : List Lexeme) → Held xs → IsRestriction notation r xs → ArePlaced text (restriction_places r)
   restriction_placed (InClass name) xs h (f, b, e, w, t) = ((token_placed Name name b (held_second xs f b e h) t).0, tt)
   restriction_placed (OneOf terms) xs h (f, b, e, w, (g, c, e', ts, end)) =
-      terms_placed terms (separated_placed IsTermFrom (λ byte. byte ≤ length text) term_placed (IsWord (codes "or")) terms g (held_first b g c e' (held_second xs f b e h)) ts)
+      terms_placed terms (separated_placed (IsTermFrom notation) (λ byte. byte ≤ length text) term_placed (IsWord (codes "or")) terms g (held_first b g c e' (held_second xs f b e h)) ts)
 
   -- a condition whose name and whose places stand in the text
   abbrev ConditionPlaced : Condition → Type 0
   ConditionPlaced c = IsTokenOf text c.variable × ArePlaced text (restriction_places c.restriction)
 
-  condition_placed : (c : Condition) (xs : List Lexeme) → Held xs → IsCondition c xs → ConditionPlaced c
+  condition_placed : (c : Condition) (xs : List Lexeme) → Held xs → IsCondition notation c xs → ConditionPlaced c
   condition_placed c xs h (f, b, e, v, (g, d, e', i, r)) =
       ((token_placed Name c.variable f (held_first xs f b e h) v).0, restriction_placed c.restriction d (held_second b g d e' (held_second xs f b e h)) r)
 
   conditions_placed : (before : List Token) (cs : List Condition) → AllByRecursion (IsTokenOf text) before → AllByRecursion ConditionPlaced cs → ArePlaced text (condition_places before cs)
   conditions_placed before [] b a = tt
   conditions_placed before (c ∷ cs) b ((v, r), a) =
-      ((b, v), all_join (IsPlaced text) (restriction_places c.restriction) (condition_places (before ++ c.variable ∷ []) cs) r (conditions_placed (before ++ c.variable ∷ []) cs (all_join (IsTokenOf text) before (c.variable ∷ []) b (v, tt)) a))
+      ((b, v), all_both (IsPlaced text) (restriction_places c.restriction) (condition_places (before ++ c.variable ∷ []) cs) r (conditions_placed (before ++ c.variable ∷ []) cs (all_both (IsTokenOf text) before (c.variable ∷ []) b (v, tt)) a))
 
-  where_placed : (cs : List Condition) (xs : List Lexeme) → Held xs → IsWhere cs xs → ArePlaced text (condition_places [] cs)
+  where_placed : (cs : List Condition) (xs : List Lexeme) → Held xs → IsWhere notation cs xs → ArePlaced text (condition_places [] cs)
   where_placed [] xs h w = tt
   where_placed (c ∷ cs) xs h (f, b, e, w, (g, d, e', s, end)) =
-      conditions_placed [] (c ∷ cs) tt (separated_placed IsCondition ConditionPlaced condition_placed (IsKind Comma) (c ∷ cs) g (held_first b g d e' (held_second xs f b e h)) s)
+      conditions_placed [] (c ∷ cs) tt (separated_placed (IsCondition notation) ConditionPlaced condition_placed (IsKind Comma) (c ∷ cs) g (held_first b g d e' (held_second xs f b e h)) s)
 
-  equation_placed : (s : Sides) (xs : List Lexeme) → Held xs → IsEquation s xs → ArePlaced text (equation_places s)
+  equation_placed : (s : Sides) (xs : List Lexeme) → Held xs → IsEquation notation s xs → ArePlaced text (equation_places s)
   equation_placed s xs h (f, b, e, l, (g, c, e', eq, (k, d, e'', r, w))) =
       let behind = held_second b g c e' (held_second xs f b e h) in
       (term_placed s.left f (held_first xs f b e h) l, (term_placed s.right k (held_first c k d e'' behind) r, where_placed s.conditions d (held_second c k d e'' behind) w))
 
-  item_placed : (i : EquationItem) (xs : List Lexeme) → Held xs → IsItem i xs → ArePlaced text (item_places i)
+  item_placed : (i : EquationItem) (xs : List Lexeme) → Held xs → IsItem notation i xs → ArePlaced text (item_places i)
   item_placed (Equates s) xs h (other, q) = equation_placed s xs h q
   item_placed (IncludesOperations include names) xs h i = operations_placed names (include_placed include names xs h i)
 
@@ -135,7 +133,7 @@ module _ (text : List ℕ) where
     pub variables : ArePlaced text (map Variable file.variables)
     pub items : ArePlaced text (flat_map item_places file.items)
 
-  pub file_placed : (file : File) (xs : List Lexeme) (end : ℕ) → Scans text 0 xs end → IsFile file xs → FilePlaced file
+  pub file_placed : (file : File) (xs : List Lexeme) (end : ℕ) → Scans text 0 xs end → IsFile notation file xs → FilePlaced file
   file_placed file xs end scanned (f1, b1, e1, w1, (f2, b2, e2, ss, (f3, b3, e3, w3, (f4, b4, e4, w4, (f5, b5, e5, vs, (f6, b6, e6, is, e)))))) =
       let h1 = held_second xs f1 b1 e1 (held 0 end xs (omega arith) scanned) in
       let h2 = held_second b1 f2 b2 e2 h1 in
@@ -145,5 +143,5 @@ module _ (text : List ℕ) where
       record {
         symbols = all_flat (IsPlaced text) symbol_places file.symbols (closed_placed IsSymbolItem (λ i. ArePlaced text (symbol_places i)) symbol_item_placed (IsKind Semicolon) (IsKind Dot) file.symbols f2 (held_first b1 f2 b2 e2 h1) ss);
         variables = list_placed file.variables f5 (held_first b4 f5 b5 e5 h4) vs;
-        items = all_flat (IsPlaced text) item_places file.items (closed_placed IsItem (λ i. ArePlaced text (item_places i)) item_placed (IsKind Semicolon) (IsKind Dot) file.items f6 (held_first b5 f6 b6 e6 h5) is);
+        items = all_flat (IsPlaced text) item_places file.items (closed_placed (IsItem notation) (λ i. ArePlaced text (item_places i)) item_placed (IsKind Semicolon) (IsKind Dot) file.items f6 (held_first b5 f6 b6 e6 h5) is);
       }

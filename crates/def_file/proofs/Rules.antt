@@ -1,16 +1,16 @@
 -- The rules of the grammar without their trees, and what begins each and goes on behind it.
-use Rattle.std.proofs.Common.{◌≡◌, ℕ, true, false, List, [], ◌∷◌, inl, inr, refl, subst}
+use Rattle.std.proofs.Common.{◌≡◌, ℕ, true, false, List, [], ◌∷◌, ◌++◌, inl, inr, refl, subst}
 use Rattle.std.specs.Prelude.{codes}
 use Rattle.term_lex.specs.declared.token.TokenKind.{TokenKind}
-use Rattle.term_lex.specs.declared.token.TokenKind.TheVariants.{Name, Numeral, Comma, Semicolon, Colon, Dot, Equals, OpenRound, End}
+use Rattle.term_lex.specs.declared.token.TokenKind.TheVariants.{Name, Numeral, Comma, Semicolon, Colon, Dot, Equals, End}
 use Rattle.term_lex.specs.Lexemes.{Lexeme}
 use Rattle.term_lex.specs.Parts.{IsKind, IsWord, Nothing, One, Then, BeginsWith, Either, Some, Closed, Separated}
 use Rattle.term_lex.proofs.Marks.{Kind, Word}
 use Rattle.term_lex.proofs.Parts.{IsPart, nothing_part, then_part, either_part, then_begun}
 use Rattle.term_lex.proofs.PlainAnswers.{not_begun, kind_part, word_part, some_of_kind, of_kind, some_word, of_word}
 use Rattle.term_lex.proofs.ListAnswers.{same_part, separated_part, list_part}
-use Rattle.standmath.specs.Terms.{IsSomeTerm}
-use Rattle.standmath.proofs.Terms.{term_marks, term_part}
+use Rattle.written_terms.specs.Notation.{Notation, IsSomeTerm}
+use Rattle.written_terms.proofs.Notations.{term_first, term_more, IsLawful}
 use Rattle.def_file.specs.Trees.{Declares, IncludesClasses, InClass, OneOf, Equates, IncludesOperations}
 use Rattle.def_file.specs.Grammar.{IsToken, IsWordAs, IsTermFrom, IsInclude, IsNames, IsIncludeOf, IsDeclaration, IsSymbolItem, IsNameList, IsVariables, IsTerms, IsInClass, IsOneOf, IsRestriction, IsCondition, IsConditions, IsWhere, IsEquation, IsItem, IsFile}
 
@@ -33,20 +33,6 @@ word_from w xs (token, (x, e, t)) = (x, e, t.0)
 
 pub word_as_part : (w : List ℕ) → IsPart (Some (IsWordAs w)) false (Word w ∷ []) []
 word_as_part w = same_part (word_to w) (word_from w) (word_part w)
-
--- a term with its first byte
-no_term : IsSomeTerm [] → ⊥
-no_term s = let no = term_part.empty s in cc
-
-pub term_to : (xs : List Lexeme) → IsSomeTerm xs → Some IsTermFrom xs
-term_to [] s = absurd (no_term s)
-term_to (x ∷ xs) s = (x.token.from, (refl, s))
-
-pub term_from : (xs : List Lexeme) → Some IsTermFrom xs → IsSomeTerm xs
-term_from xs (byte, (b, s)) = s
-
-pub side_part : IsPart (Some IsTermFrom) false term_marks (Kind OpenRound ∷ [])
-side_part = same_part term_to term_from term_part
 
 -- name { "," name }
 pub names_part : IsPart (Some IsNames) false (Kind Name ∷ []) (Kind Comma ∷ [])
@@ -132,10 +118,6 @@ variables_from xs (v ∷ vs, n) = inr (not_begun (Kind Colon) (λ x k. k) named_
 pub variables_part : IsPart (Some IsVariables) false (Kind Colon ∷ Kind Name ∷ []) []
 variables_part = same_part variables_to variables_from (either_part (one_begun (IsKind Colon)) (kind_part Colon) named_part)
 
--- term { "or" term }
-pub terms_part : IsPart (Some IsTerms) false term_marks (Kind OpenRound ∷ Word (codes "or") ∷ Kind OpenRound ∷ [])
-terms_part = separated_part (IsWord (codes "or")) IsTermFrom (Word (codes "or")) (λ x t. t) (some_word (codes "or")) (of_word (codes "or")) side_part refl
-
 -- "in" name
 abbrev pub InParts : List Lexeme → Type 0
 InParts xs = Then (One (IsWord (codes "in"))) (Some (IsToken Name)) xs
@@ -152,145 +134,165 @@ in_part = same_part in_to in_from (then_part (word_part (codes "in")) (token_par
 pub in_begun : (xs : List Lexeme) → Some IsInClass xs → BeginsWith (IsWord (codes "in")) xs
 in_begun xs s = then_begun xs (in_from xs s)
 
--- "either" terms "end" "or"
-abbrev pub EitherParts : List Lexeme → Type 0
-EitherParts xs = Then (One (IsWord (codes "either"))) (Then (Some IsTerms) (Then (One (IsWord (codes "end"))) (One (IsWord (codes "or"))))) xs
+-- terms are written in a lawful notation
+module _ {notation : Notation} (laws : IsLawful notation) where
+  -- a term with its first byte
+  no_term : IsSomeTerm notation [] → ⊥
+  no_term s = let no = laws.part.empty s in cc
 
-pub one_of_to : (xs : List Lexeme) → EitherParts xs → Some IsOneOf xs
-one_of_to xs (f, b, e, w, (g, c, e', (ts, t), end)) = (ts, (f, b, e, w, (g, c, e', t, end)))
+  pub term_to : (xs : List Lexeme) → IsSomeTerm notation xs → Some (IsTermFrom notation) xs
+  term_to [] s = absurd (no_term s)
+  term_to (x ∷ xs) s = (x.token.from, (refl, s))
 
-pub one_of_from : (xs : List Lexeme) → Some IsOneOf xs → EitherParts xs
-one_of_from xs (ts, (f, b, e, w, (g, c, e', t, end))) = (f, b, e, w, (g, c, e', (ts, t), end))
+  pub term_from : (xs : List Lexeme) → Some (IsTermFrom notation) xs → IsSomeTerm notation xs
+  term_from xs (byte, (b, s)) = s
 
-pub one_of_part : IsPart (Some IsOneOf) false (Word (codes "either") ∷ []) []
-one_of_part = same_part one_of_to one_of_from (then_part (word_part (codes "either")) (then_part terms_part (then_part (word_part (codes "end")) (word_part (codes "or")) refl) refl) refl)
+  pub side_part : IsPart (Some (IsTermFrom notation)) false term_first term_more
+  side_part = same_part term_to term_from laws.part
 
-pub restriction_to : (xs : List Lexeme) → Either (IsWord (codes "in")) (Some IsInClass) (Some IsOneOf) xs → Some IsRestriction xs
-restriction_to xs (inl (n, i)) = (InClass n, i)
-restriction_to xs (inr (other, (ts, t))) = (OneOf ts, t)
+  -- term { "or" term }
+  pub terms_part : IsPart (Some (IsTerms notation)) false term_first ((term_more ++ Word (codes "or") ∷ []) ++ term_more)
+  terms_part = separated_part (IsWord (codes "or")) (IsTermFrom notation) (Word (codes "or")) (λ x t. t) (some_word (codes "or")) (of_word (codes "or")) side_part refl
 
-pub restriction_from : (xs : List Lexeme) → Some IsRestriction xs → Either (IsWord (codes "in")) (Some IsInClass) (Some IsOneOf) xs
-restriction_from xs (InClass n, i) = inl (n, i)
-restriction_from xs (OneOf ts, t) = inr (not_begun (Word (codes "in")) (λ x k. k) one_of_part refl xs (ts, t), (ts, t))
+  -- "either" terms "end" "or"
+  abbrev pub EitherParts : List Lexeme → Type 0
+  EitherParts xs = Then (One (IsWord (codes "either"))) (Then (Some (IsTerms notation)) (Then (One (IsWord (codes "end"))) (One (IsWord (codes "or"))))) xs
 
-pub restriction_part : IsPart (Some IsRestriction) false (Word (codes "in") ∷ Word (codes "either") ∷ []) []
-restriction_part = same_part restriction_to restriction_from (either_part in_begun in_part one_of_part)
+  pub one_of_to : (xs : List Lexeme) → EitherParts xs → Some (IsOneOf notation) xs
+  one_of_to xs (f, b, e, w, (g, c, e', (ts, t), end)) = (ts, (f, b, e, w, (g, c, e', t, end)))
 
--- name "is" restriction
-abbrev pub ConditionParts : List Lexeme → Type 0
-ConditionParts xs = Then (Some (IsToken Name)) (Then (One (IsWord (codes "is"))) (Some IsRestriction)) xs
+  pub one_of_from : (xs : List Lexeme) → Some (IsOneOf notation) xs → EitherParts xs
+  one_of_from xs (ts, (f, b, e, w, (g, c, e', t, end))) = (f, b, e, w, (g, c, e', (ts, t), end))
 
-pub condition_to : (xs : List Lexeme) → ConditionParts xs → Some IsCondition xs
-condition_to xs (f, b, e, (v, t), (g, c, e', i, (r, s))) = (record { variable = v; restriction = r }, (f, b, e, t, (g, c, e', i, s)))
+  pub one_of_part : IsPart (Some (IsOneOf notation)) false (Word (codes "either") ∷ []) []
+  one_of_part = same_part one_of_to one_of_from (then_part (word_part (codes "either")) (then_part terms_part (then_part (word_part (codes "end")) (word_part (codes "or")) refl) refl) refl)
 
-pub condition_from : (xs : List Lexeme) → Some IsCondition xs → ConditionParts xs
-condition_from xs (q, (f, b, e, t, (g, c, e', i, s))) = (f, b, e, (q.variable, t), (g, c, e', i, (q.restriction, s)))
+  pub restriction_to : (xs : List Lexeme) → Either (IsWord (codes "in")) (Some IsInClass) (Some (IsOneOf notation)) xs → Some (IsRestriction notation) xs
+  restriction_to xs (inl (n, i)) = (InClass n, i)
+  restriction_to xs (inr (other, (ts, t))) = (OneOf ts, t)
 
-pub condition_part : IsPart (Some IsCondition) false (Kind Name ∷ []) []
-condition_part = same_part condition_to condition_from (then_part (token_part Name) (then_part (word_part (codes "is")) restriction_part refl) refl)
+  pub restriction_from : (xs : List Lexeme) → Some (IsRestriction notation) xs → Either (IsWord (codes "in")) (Some IsInClass) (Some (IsOneOf notation)) xs
+  restriction_from xs (InClass n, i) = inl (n, i)
+  restriction_from xs (OneOf ts, t) = inr (not_begun (Word (codes "in")) (λ x k. k) one_of_part refl xs (ts, t), (ts, t))
 
-pub conditions_part : IsPart (Some (Separated (IsKind Comma) IsCondition)) false (Kind Name ∷ []) (Kind Comma ∷ [])
-conditions_part = separated_part (IsKind Comma) IsCondition (Kind Comma) (λ x t. t) (some_of_kind Comma) (of_kind Comma) condition_part refl
+  pub restriction_part : IsPart (Some (IsRestriction notation)) false (Word (codes "in") ∷ Word (codes "either") ∷ []) []
+  restriction_part = same_part restriction_to restriction_from (either_part in_begun in_part one_of_part)
 
--- "where" conditions "end" "where"
-abbrev pub WhereParts : List Lexeme → Type 0
-WhereParts xs = Then (One (IsWord (codes "where"))) (Then (Some (Separated (IsKind Comma) IsCondition)) (Then (One (IsWord (codes "end"))) (One (IsWord (codes "where"))))) xs
+  -- name "is" restriction
+  abbrev pub ConditionParts : List Lexeme → Type 0
+  ConditionParts xs = Then (Some (IsToken Name)) (Then (One (IsWord (codes "is"))) (Some (IsRestriction notation))) xs
 
-pub where_tail : IsPart (Then (Some (Separated (IsKind Comma) IsCondition)) (Then (One (IsWord (codes "end"))) (One (IsWord (codes "where"))))) false (Kind Name ∷ []) []
-where_tail = then_part conditions_part (then_part (word_part (codes "end")) (word_part (codes "where")) refl) refl
+  pub condition_to : (xs : List Lexeme) → ConditionParts xs → Some (IsCondition notation) xs
+  condition_to xs (f, b, e, (v, t), (g, c, e', i, (r, s))) = (record { variable = v; restriction = r }, (f, b, e, t, (g, c, e', i, s)))
 
-pub qualified_to : (xs : List Lexeme) → WhereParts xs → Some IsConditions xs
-qualified_to xs (f, b, e, w, (g, c, e', (cs, s), end)) = (cs, (f, b, e, w, (g, c, e', s, end)))
+  pub condition_from : (xs : List Lexeme) → Some (IsCondition notation) xs → ConditionParts xs
+  condition_from xs (q, (f, b, e, t, (g, c, e', i, s))) = (f, b, e, (q.variable, t), (g, c, e', i, (q.restriction, s)))
 
-pub qualified_from : (xs : List Lexeme) → Some IsConditions xs → WhereParts xs
-qualified_from xs (cs, (f, b, e, w, (g, c, e', s, end))) = (f, b, e, w, (g, c, e', (cs, s), end))
+  pub condition_part : IsPart (Some (IsCondition notation)) false (Kind Name ∷ []) []
+  condition_part = same_part condition_to condition_from (then_part (token_part Name) (then_part (word_part (codes "is")) restriction_part refl) refl)
 
-pub qualified_part : IsPart (Some IsConditions) false (Word (codes "where") ∷ []) []
-qualified_part = same_part qualified_to qualified_from (then_part (word_part (codes "where")) where_tail refl)
+  pub conditions_part : IsPart (Some (Separated (IsKind Comma) (IsCondition notation))) false (Kind Name ∷ []) (Kind Comma ∷ [])
+  conditions_part = separated_part (IsKind Comma) (IsCondition notation) (Kind Comma) (λ x t. t) (some_of_kind Comma) (of_kind Comma) condition_part refl
 
-pub qualified_begun : (xs : List Lexeme) → Some IsConditions xs → BeginsWith (IsWord (codes "where")) xs
-qualified_begun xs s = then_begun xs (qualified_from xs s)
+  -- "where" conditions "end" "where"
+  abbrev pub WhereParts : List Lexeme → Type 0
+  WhereParts xs = Then (One (IsWord (codes "where"))) (Then (Some (Separated (IsKind Comma) (IsCondition notation))) (Then (One (IsWord (codes "end"))) (One (IsWord (codes "where"))))) xs
 
--- [ "where" .. ]
-pub where_to : (xs : List Lexeme) → Either (IsWord (codes "where")) (Some IsConditions) Nothing xs → Some IsWhere xs
-where_to xs (inl ([], (f, b, e, w, (g, c, e', s, end)))) = absurd s
-where_to xs (inl (q ∷ qs, s)) = (q ∷ qs, s)
-where_to xs (inr none) = ([], none.1)
+  pub where_tail : IsPart (Then (Some (Separated (IsKind Comma) (IsCondition notation))) (Then (One (IsWord (codes "end"))) (One (IsWord (codes "where"))))) false (Kind Name ∷ []) []
+  where_tail = then_part conditions_part (then_part (word_part (codes "end")) (word_part (codes "where")) refl) refl
 
-pub where_from : (xs : List Lexeme) → Some IsWhere xs → Either (IsWord (codes "where")) (Some IsConditions) Nothing xs
-where_from xs ([], none) = inr (λ b. subst (BeginsWith (IsWord (codes "where"))) none b, none)
-where_from xs (q ∷ qs, s) = inl (q ∷ qs, s)
+  pub qualified_to : (xs : List Lexeme) → WhereParts xs → Some (IsConditions notation) xs
+  qualified_to xs (f, b, e, w, (g, c, e', (cs, s), end)) = (cs, (f, b, e, w, (g, c, e', s, end)))
 
-pub where_part : IsPart (Some IsWhere) true (Word (codes "where") ∷ []) (Word (codes "where") ∷ [])
-where_part = same_part where_to where_from (either_part qualified_begun qualified_part nothing_part)
+  pub qualified_from : (xs : List Lexeme) → Some (IsConditions notation) xs → WhereParts xs
+  qualified_from xs (cs, (f, b, e, w, (g, c, e', s, end))) = (f, b, e, w, (g, c, e', (cs, s), end))
 
--- term "=" term [ where ]
-abbrev pub EquationParts : List Lexeme → Type 0
-EquationParts xs = Then (Some IsTermFrom) (Then (One (IsKind Equals)) (Then (Some IsTermFrom) (Some IsWhere))) xs
+  pub qualified_part : IsPart (Some (IsConditions notation)) false (Word (codes "where") ∷ []) []
+  qualified_part = same_part qualified_to qualified_from (then_part (word_part (codes "where")) where_tail refl)
 
-pub equation_to : (xs : List Lexeme) → EquationParts xs → Some IsEquation xs
-equation_to xs (f, b, e, (l, tl), (g, c, e', eq, (h, d, e'', (r, tr), (cs, w)))) =
-    (record { left = l; right = r; conditions = cs }, (f, b, e, tl, (g, c, e', eq, (h, d, e'', tr, w))))
+  pub qualified_begun : (xs : List Lexeme) → Some (IsConditions notation) xs → BeginsWith (IsWord (codes "where")) xs
+  qualified_begun xs s = then_begun xs (qualified_from xs s)
 
-pub equation_from : (xs : List Lexeme) → Some IsEquation xs → EquationParts xs
-equation_from xs (s, (f, b, e, tl, (g, c, e', eq, (h, d, e'', tr, w)))) =
-    (f, b, e, (s.left, tl), (g, c, e', eq, (h, d, e'', (s.right, tr), (s.conditions, w))))
+  -- [ "where" .. ]
+  pub where_to : (xs : List Lexeme) → Either (IsWord (codes "where")) (Some (IsConditions notation)) Nothing xs → Some (IsWhere notation) xs
+  where_to xs (inl ([], (f, b, e, w, (g, c, e', s, end)))) = absurd s
+  where_to xs (inl (q ∷ qs, s)) = (q ∷ qs, s)
+  where_to xs (inr none) = ([], none.1)
 
-pub equation_part : IsPart (Some IsEquation) false term_marks (Word (codes "where") ∷ Kind OpenRound ∷ [])
-equation_part = same_part equation_to equation_from (then_part side_part (then_part (kind_part Equals) (then_part side_part where_part refl) refl) refl)
+  pub where_from : (xs : List Lexeme) → Some (IsWhere notation) xs → Either (IsWord (codes "where")) (Some (IsConditions notation)) Nothing xs
+  where_from xs ([], none) = inr (λ b. subst (BeginsWith (IsWord (codes "where"))) none b, none)
+  where_from xs (q ∷ qs, s) = inl (q ∷ qs, s)
 
-pub item_to : (xs : List Lexeme) → Either IsInclude (Some IsIncludeOf) (Some IsEquation) xs → Some IsItem xs
-item_to xs (inl ((t, ns), i)) = (IncludesOperations t ns, i)
-item_to xs (inr (other, (s, q))) = (Equates s, (other, q))
+  pub where_part : IsPart (Some (IsWhere notation)) true (Word (codes "where") ∷ []) (Word (codes "where") ∷ [])
+  where_part = same_part where_to where_from (either_part qualified_begun qualified_part nothing_part)
 
-pub item_from : (xs : List Lexeme) → Some IsItem xs → Either IsInclude (Some IsIncludeOf) (Some IsEquation) xs
-item_from xs (IncludesOperations t ns, i) = inl ((t, ns), i)
-item_from xs (Equates s, (other, q)) = inr (other, (s, q))
+  -- term "=" term [ where ]
+  abbrev pub EquationParts : List Lexeme → Type 0
+  EquationParts xs = Then (Some (IsTermFrom notation)) (Then (One (IsKind Equals)) (Then (Some (IsTermFrom notation)) (Some (IsWhere notation)))) xs
 
-pub item_part : IsPart (Some IsItem) false (Word (codes "include") ∷ term_marks) (Kind Comma ∷ Word (codes "where") ∷ Kind OpenRound ∷ [])
-item_part = same_part item_to item_from (either_part include_begun include_part equation_part)
+  pub equation_to : (xs : List Lexeme) → EquationParts xs → Some (IsEquation notation) xs
+  equation_to xs (f, b, e, (l, tl), (g, c, e', eq, (h, d, e'', (r, tr), (cs, w)))) =
+      (record { left = l; right = r; conditions = cs }, (f, b, e, tl, (g, c, e', eq, (h, d, e'', tr, w))))
 
-pub items_part : IsPart (Some (Closed (IsKind Semicolon) (IsKind Dot) IsItem)) false (Kind Dot ∷ Word (codes "include") ∷ term_marks) []
-items_part = list_part (IsKind Semicolon) (IsKind Dot) IsItem (Kind Semicolon) (Kind Dot) (λ x t. t) (λ x t. t) (some_of_kind Semicolon) (of_kind Semicolon) (some_of_kind Dot) (of_kind Dot) item_part refl refl
+  pub equation_from : (xs : List Lexeme) → Some (IsEquation notation) xs → EquationParts xs
+  equation_from xs (s, (f, b, e, tl, (g, c, e', eq, (h, d, e'', tr, w)))) =
+      (f, b, e, (s.left, tl), (g, c, e', eq, (h, d, e'', (s.right, tr), (s.conditions, w))))
 
--- the parts of a file from each place on
-abbrev pub FromItems : List Lexeme → Type 0
-FromItems xs = Then (Some (Closed (IsKind Semicolon) (IsKind Dot) IsItem)) (One (IsKind End)) xs
+  pub equation_part : IsPart (Some (IsEquation notation)) false term_first (Word (codes "where") ∷ term_more)
+  equation_part = same_part equation_to equation_from (then_part side_part (then_part (kind_part Equals) (then_part side_part where_part refl) refl) refl)
 
-abbrev pub FromVariables : List Lexeme → Type 0
-FromVariables xs = Then (Some IsVariables) FromItems xs
+  pub item_to : (xs : List Lexeme) → Either IsInclude (Some IsIncludeOf) (Some (IsEquation notation)) xs → Some (IsItem notation) xs
+  item_to xs (inl ((t, ns), i)) = (IncludesOperations t ns, i)
+  item_to xs (inr (other, (s, q))) = (Equates s, (other, q))
 
-abbrev pub FromAll : List Lexeme → Type 0
-FromAll xs = Then (One (IsWord (codes "all"))) FromVariables xs
+  pub item_from : (xs : List Lexeme) → Some (IsItem notation) xs → Either IsInclude (Some IsIncludeOf) (Some (IsEquation notation)) xs
+  item_from xs (IncludesOperations t ns, i) = inl ((t, ns), i)
+  item_from xs (Equates s, (other, q)) = inr (other, (s, q))
 
-abbrev pub FromFor : List Lexeme → Type 0
-FromFor xs = Then (One (IsWord (codes "For"))) FromAll xs
+  pub item_part : IsPart (Some (IsItem notation)) false (Word (codes "include") ∷ term_first) (Kind Comma ∷ Word (codes "where") ∷ term_more)
+  item_part = same_part item_to item_from (either_part include_begun include_part equation_part)
 
-abbrev pub FromSymbolItems : List Lexeme → Type 0
-FromSymbolItems xs = Then (Some (Closed (IsKind Semicolon) (IsKind Dot) IsSymbolItem)) FromFor xs
+  pub items_part : IsPart (Some (Closed (IsKind Semicolon) (IsKind Dot) (IsItem notation))) false (Kind Dot ∷ Word (codes "include") ∷ term_first) []
+  items_part = list_part (IsKind Semicolon) (IsKind Dot) (IsItem notation) (Kind Semicolon) (Kind Dot) (λ x t. t) (λ x t. t) (some_of_kind Semicolon) (of_kind Semicolon) (some_of_kind Dot) (of_kind Dot) item_part refl refl
 
-abbrev pub FromSymbols : List Lexeme → Type 0
-FromSymbols xs = Then (One (IsWord (codes "Symbols"))) FromSymbolItems xs
+  -- the parts of a file from each place on
+  abbrev pub FromItems : List Lexeme → Type 0
+  FromItems xs = Then (Some (Closed (IsKind Semicolon) (IsKind Dot) (IsItem notation))) (One (IsKind End)) xs
 
-pub from_items : IsPart FromItems false (Kind Dot ∷ Word (codes "include") ∷ term_marks) []
-from_items = then_part items_part (kind_part End) refl
+  abbrev pub FromVariables : List Lexeme → Type 0
+  FromVariables xs = Then (Some IsVariables) FromItems xs
 
-pub from_variables : IsPart FromVariables false (Kind Colon ∷ Kind Name ∷ []) []
-from_variables = then_part variables_part from_items refl
+  abbrev pub FromAll : List Lexeme → Type 0
+  FromAll xs = Then (One (IsWord (codes "all"))) FromVariables xs
 
-pub from_all : IsPart FromAll false (Word (codes "all") ∷ []) []
-from_all = then_part (word_part (codes "all")) from_variables refl
+  abbrev pub FromFor : List Lexeme → Type 0
+  FromFor xs = Then (One (IsWord (codes "For"))) FromAll xs
 
-pub from_for : IsPart FromFor false (Word (codes "For") ∷ []) []
-from_for = then_part (word_part (codes "For")) from_all refl
+  abbrev pub FromSymbolItems : List Lexeme → Type 0
+  FromSymbolItems xs = Then (Some (Closed (IsKind Semicolon) (IsKind Dot) IsSymbolItem)) FromFor xs
 
-pub from_symbol_items : IsPart FromSymbolItems false (Kind Dot ∷ Word (codes "include") ∷ Kind Name ∷ []) []
-from_symbol_items = then_part symbols_part from_for refl
+  abbrev pub FromSymbols : List Lexeme → Type 0
+  FromSymbols xs = Then (One (IsWord (codes "Symbols"))) FromSymbolItems xs
 
-pub file_to : (xs : List Lexeme) → FromSymbols xs → Some IsFile xs
-file_to xs (f1, b1, e1, w, (f2, b2, e2, (ss, s), (f3, b3, e3, w3, (f4, b4, e4, w4, (f5, b5, e5, (vs, v), (f6, b6, e6, (is, i), end)))))) =
-    (record { symbols = ss; variables = vs; items = is }, (f1, b1, e1, w, (f2, b2, e2, s, (f3, b3, e3, w3, (f4, b4, e4, w4, (f5, b5, e5, v, (f6, b6, e6, i, end)))))))
+  pub from_items : IsPart FromItems false (Kind Dot ∷ Word (codes "include") ∷ term_first) []
+  from_items = then_part items_part (kind_part End) refl
 
-pub file_from : (xs : List Lexeme) → Some IsFile xs → FromSymbols xs
-file_from xs (file, (f1, b1, e1, w, (f2, b2, e2, s, (f3, b3, e3, w3, (f4, b4, e4, w4, (f5, b5, e5, v, (f6, b6, e6, i, end))))))) =
-    (f1, b1, e1, w, (f2, b2, e2, (file.symbols, s), (f3, b3, e3, w3, (f4, b4, e4, w4, (f5, b5, e5, (file.variables, v), (f6, b6, e6, (file.items, i), end))))))
+  pub from_variables : IsPart FromVariables false (Kind Colon ∷ Kind Name ∷ []) []
+  from_variables = then_part variables_part from_items refl
+
+  pub from_all : IsPart FromAll false (Word (codes "all") ∷ []) []
+  from_all = then_part (word_part (codes "all")) from_variables refl
+
+  pub from_for : IsPart FromFor false (Word (codes "For") ∷ []) []
+  from_for = then_part (word_part (codes "For")) from_all refl
+
+  pub from_symbol_items : IsPart FromSymbolItems false (Kind Dot ∷ Word (codes "include") ∷ Kind Name ∷ []) []
+  from_symbol_items = then_part symbols_part from_for refl
+
+  pub file_to : (xs : List Lexeme) → FromSymbols xs → Some (IsFile notation) xs
+  file_to xs (f1, b1, e1, w, (f2, b2, e2, (ss, s), (f3, b3, e3, w3, (f4, b4, e4, w4, (f5, b5, e5, (vs, v), (f6, b6, e6, (is, i), end)))))) =
+      (record { symbols = ss; variables = vs; items = is }, (f1, b1, e1, w, (f2, b2, e2, s, (f3, b3, e3, w3, (f4, b4, e4, w4, (f5, b5, e5, v, (f6, b6, e6, i, end)))))))
+
+  pub file_from : (xs : List Lexeme) → Some (IsFile notation) xs → FromSymbols xs
+  file_from xs (file, (f1, b1, e1, w, (f2, b2, e2, s, (f3, b3, e3, w3, (f4, b4, e4, w4, (f5, b5, e5, v, (f6, b6, e6, i, end))))))) =
+      (f1, b1, e1, w, (f2, b2, e2, (file.symbols, s), (f3, b3, e3, w3, (f4, b4, e4, w4, (f5, b5, e5, (file.variables, v), (f6, b6, e6, (file.items, i), end))))))

@@ -10,8 +10,9 @@ use Rattle.eq_base.specs.declared.rules.Op.{Op}
 use Rattle.term_lex.specs.declared.token.Token.{Token}
 use Rattle.term_lex.specs.declared.fault.Fault.{Fault}
 use Rattle.term_lex.specs.declared.fault.FaultKind.TheVariants.{FileLong}
-use Rattle.term_lex.specs.Lexemes.{IsFirstFault, Plainly}
+use Rattle.term_lex.specs.Lexemes.{IsFirstFault}
 use Rattle.symbol_table.specs.Table.{class_name}
+use Rattle.written_terms.specs.Notation.{Notation}
 use Rattle.def_file.specs.AsRead.{ReadQualifier, ReadEquation, Equation, Class, ReadNumbered, ReadDefinitions}
 use Rattle.def_file.specs.Trees.{Restriction, InClass, OneOf, Condition, Sides, EquationItem, Equates, IncludesOperations, File}
 use Rattle.def_file.specs.Pairs.{AreRelated}
@@ -55,10 +56,17 @@ module _ (text : List ℕ) (known : Known) where
   AreIn [] classes = classes ≡ []
   AreIn (c ∷ cs) classes = IsFirstIn c.variable c.restriction (λ rest. AreIn cs rest) classes
 
+  -- the name is that of an equation class, which the item with the number includes
+  abbrev pub MeansOperation : ℕ → Token → ReadNumbered → Type 0
+  MeansOperation number name numbered = (op : Op) × (token_bytes text name ≡ operation_name op)
+      × (numbered ≡ record { item = Class op name.from; number = number })
+
+-- terms are written in the notation
+module _ (notation : Notation) (text : List ℕ) (known : Known) where
   module _ (classes : List (ℕ × ℕ)) where
     -- the term from the byte on is this pattern, in which variables stand with their classes
     abbrev pub MeansSide : ℕ → Tree (PatternCell ReadHead) → Type 0
-    MeansSide byte pattern = (plain : Tree (PatternCell ReadHead)) × IsPattern text known byte plain
+    MeansSide byte pattern = (plain : Tree (PatternCell ReadHead)) × IsPattern notation text known byte plain
         × (pattern ≡ map_heads (classed classes) plain)
 
     -- what a variable may stand for: the alternatives, of which a class has none
@@ -68,30 +76,25 @@ module _ (text : List ℕ) (known : Known) where
 
     -- a written qualifier means this one
     pub record MeansQualifier (c : Condition) (qualifier : ReadQualifier) : Type 0 where
-      pub variable : NamesVariable c.variable qualifier.variable
+      pub variable : NamesVariable text known c.variable qualifier.variable
       pub choices : MeanChoices c.restriction qualifier.choices
       pub place : qualifier.byte ≡ c.variable.from
 
   -- written sides mean this equation
   pub record MeansEquation (sides : Sides) (equation : ReadEquation) : Type 0 where
     pub classes : List (ℕ × ℕ)
-    pub are_in : AreIn sides.conditions classes
+    pub are_in : AreIn text known sides.conditions classes
     pub left : MeansSide classes sides.left equation.left
     pub right : MeansSide classes sides.right equation.right
     pub qualifiers : AreRelated (MeansQualifier classes) sides.conditions equation.qualifiers
     pub place : equation.byte ≡ sides.left
-
-  -- the name is that of an equation class, which the item with the number includes
-  abbrev pub MeansOperation : ℕ → Token → ReadNumbered → Type 0
-  MeansOperation number name numbered = (op : Op) × (token_bytes text name ≡ operation_name op)
-      × (numbered ≡ record { item = Class op name.from; number = number })
 
   -- the written item with the number means these items
   abbrev pub MeansItem : ℕ → EquationItem → List ReadNumbered → Type 0
   MeansItem number (Equates sides) numbered = (equation : ReadEquation) × MeansEquation sides equation
       × (numbered ≡ record { item = Equation equation; number = number } ∷ [])
   MeansItem number (IncludesOperations include names) numbered =
-      AreRelated (MeansOperation number) names numbered
+      AreRelated (MeansOperation text known number) names numbered
 
   -- the written items from the number on mean these items
   abbrev pub MeanItems : ℕ → List EquationItem → List ReadNumbered → Type 0
@@ -110,39 +113,40 @@ abbrev pub sides_of : File → List Sides
 sides_of file = flat_map equation_of file.items
 
 -- the file has no fault, and says these definitions
-pub record Says (text : List ℕ) (definitions : ReadDefinitions) : Type 0 where
+pub record Says (notation : Notation) (text : List ℕ) (definitions : ReadDefinitions) : Type 0 where
   pub short : length text ≤ most_bytes
   pub file : File
-  pub reads : IsFileText text file
+  pub reads : IsFileText notation text file
   pub known : Known
-  pub names : TakesAll text nothing_known (places_of file) known
-  pub limits : KeepsAll text known (all_limits 0 (sides_of file))
+  pub names : TakesAll notation text nothing_known (places_of file) known
+  pub limits : KeepsAll notation text known (all_limits 0 (sides_of file))
   pub declared : definitions.names ≡ known.table
   pub variables : definitions.variables ≡ known.variables
-  pub items : MeanItems text known 1 file.items definitions.items
+  pub items : MeanItems notation text known 1 file.items definitions.items
 
 -- its names have a fault, and this is the first one
-pub record HasNameFault (text : List ℕ) (fault : Fault) : Type 0 where
+pub record HasNameFault (notation : Notation) (text : List ℕ) (fault : Fault) : Type 0 where
   pub file : File
-  pub reads : IsFileText text file
-  pub refused : RefusesFirst text nothing_known (places_of file) fault
+  pub reads : IsFileText notation text file
+  pub refused : RefusesFirst notation text nothing_known (places_of file) fault
 
 -- its names have no fault, but its sides have one, and this is the first one
-pub record HasSideFault (text : List ℕ) (fault : Fault) : Type 0 where
+pub record HasSideFault (notation : Notation) (text : List ℕ) (fault : Fault) : Type 0 where
   pub file : File
-  pub reads : IsFileText text file
+  pub reads : IsFileText notation text file
   pub known : Known
-  pub names : TakesAll text nothing_known (places_of file) known
-  pub passed : PassesFirst text known (all_limits 0 (sides_of file)) fault
+  pub names : TakesAll notation text nothing_known (places_of file) known
+  pub passed : PassesFirst notation text known (all_limits 0 (sides_of file)) fault
 
 -- the first fault of the first phase that has one: the length, the reading, the names and the sides
-abbrev pub IsFileFault : List ℕ → Fault → Type 0
-IsFileFault text fault =
+abbrev pub IsFileFault : Notation → List ℕ → Fault → Type 0
+IsFileFault notation text fault =
     ((most_bytes < length text) × (fault ≡ record { kind = FileLong; byte = most_bytes }))
     ⊎ ((length text ≤ most_bytes)
-    × (IsFirstFault Plainly IsSomeFile text 0 fault ⊎ (HasNameFault text fault ⊎ HasSideFault text fault)))
+    × (IsFirstFault (notation.Misplaced (IsSomeFile notation)) (IsSomeFile notation) text 0 fault
+    ⊎ (HasNameFault notation text fault ⊎ HasSideFault notation text fault)))
 
 -- what reading a file answers
-abbrev pub IsDefinitions : List ℕ → Result ReadDefinitions Fault → Type 0
-IsDefinitions text (Ok definitions) = Says text definitions
-IsDefinitions text (Err fault) = IsFileFault text fault
+abbrev pub IsDefinitions : Notation → List ℕ → Result ReadDefinitions Fault → Type 0
+IsDefinitions notation text (Ok definitions) = Says notation text definitions
+IsDefinitions notation text (Err fault) = IsFileFault notation text fault

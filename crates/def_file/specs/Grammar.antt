@@ -6,7 +6,8 @@ use Rattle.term_lex.specs.declared.token.TokenKind.TheVariants.{Name, Numeral, C
 use Rattle.term_lex.specs.Lexemes.{Lexeme, Scans}
 use Rattle.term_lex.specs.Parts as parts
 use Rattle.term_lex.specs.Parts.{IsKind, IsWord, One, Then, BeginsWith, Separated, Closed}
-use Rattle.standmath.specs.Terms.{IsSomeTerm}
+use Rattle.written_terms.specs.Notation as written
+use Rattle.written_terms.specs.Notation.{Notation}
 use Rattle.def_file.specs.Trees.{SymbolItem, Declares, IncludesClasses, Restriction, InClass, OneOf, Condition, Sides, EquationItem, Equates, IncludesOperations, File}
 
 -- the token, which is of the kind
@@ -16,10 +17,6 @@ IsToken kind token xs = One (λ x. IsKind kind x × (x.token ≡ token)) xs
 -- the word, which is this token
 abbrev pub IsWordAs : List ℕ → Token → List Lexeme → Type 0
 IsWordAs word token xs = One (λ x. IsWord word x × (x.token ≡ token)) xs
-
--- a term whose first byte this is
-abbrev pub IsTermFrom : ℕ → List Lexeme → Type 0
-IsTermFrom byte xs = BeginsWith (λ x. x.token.from ≡ byte) xs × IsSomeTerm xs
 
 -- the word `include`
 abbrev pub IsInclude : Lexeme → Type 0
@@ -51,71 +48,77 @@ abbrev pub IsVariables : List Token → List Lexeme → Type 0
 IsVariables [] xs = One (IsKind Colon) xs
 IsVariables (v ∷ vs) xs = IsNameList (v ∷ vs) xs
 
--- term { "or" term }
-abbrev pub IsTerms : List ℕ → List Lexeme → Type 0
-IsTerms terms xs = Separated (IsWord (codes "or")) IsTermFrom terms xs
-
 -- "in" name
 abbrev pub IsInClass : Token → List Lexeme → Type 0
 IsInClass name xs = Then (One (IsWord (codes "in"))) (IsToken Name name) xs
 
--- "either" term { "or" term } "end" "or"
-abbrev pub IsOneOf : List ℕ → List Lexeme → Type 0
-IsOneOf terms xs =
-    Then (One (IsWord (codes "either")))
-    (Then (IsTerms terms) (Then (One (IsWord (codes "end"))) (One (IsWord (codes "or"))))) xs
+-- terms are written in the notation
+module _ (notation : Notation) where
+  -- a term whose first byte this is
+  abbrev pub IsTermFrom : ℕ → List Lexeme → Type 0
+  IsTermFrom byte xs = BeginsWith (λ x. x.token.from ≡ byte) xs × written.IsSomeTerm notation xs
 
--- a class or alternatives
-abbrev pub IsRestriction : Restriction → List Lexeme → Type 0
-IsRestriction (InClass name) xs = IsInClass name xs
-IsRestriction (OneOf terms) xs = IsOneOf terms xs
+  -- term { "or" term }
+  abbrev pub IsTerms : List ℕ → List Lexeme → Type 0
+  IsTerms terms xs = Separated (IsWord (codes "or")) IsTermFrom terms xs
 
--- name "is" restriction
-abbrev pub IsCondition : Condition → List Lexeme → Type 0
-IsCondition c xs =
-    Then (IsToken Name c.variable) (Then (One (IsWord (codes "is"))) (IsRestriction c.restriction)) xs
+  -- "either" term { "or" term } "end" "or"
+  abbrev pub IsOneOf : List ℕ → List Lexeme → Type 0
+  IsOneOf terms xs =
+      Then (One (IsWord (codes "either")))
+      (Then (IsTerms terms) (Then (One (IsWord (codes "end"))) (One (IsWord (codes "or"))))) xs
 
--- "where" condition { "," condition } "end" "where"
-abbrev pub IsConditions : List Condition → List Lexeme → Type 0
-IsConditions cs xs =
-    Then (One (IsWord (codes "where")))
-    (Then (Separated (IsKind Comma) IsCondition cs)
-    (Then (One (IsWord (codes "end"))) (One (IsWord (codes "where"))))) xs
+  -- a class or alternatives
+  abbrev pub IsRestriction : Restriction → List Lexeme → Type 0
+  IsRestriction (InClass name) xs = IsInClass name xs
+  IsRestriction (OneOf terms) xs = IsOneOf terms xs
 
--- [ "where" condition { "," condition } "end" "where" ]
-abbrev pub IsWhere : List Condition → List Lexeme → Type 0
-IsWhere [] xs = xs ≡ []
-IsWhere (c ∷ cs) xs = IsConditions (c ∷ cs) xs
+  -- name "is" restriction
+  abbrev pub IsCondition : Condition → List Lexeme → Type 0
+  IsCondition c xs =
+      Then (IsToken Name c.variable) (Then (One (IsWord (codes "is"))) (IsRestriction c.restriction)) xs
 
--- term "=" term [ "where" .. ]
-abbrev pub IsEquation : Sides → List Lexeme → Type 0
-IsEquation sides xs =
-    Then (IsTermFrom sides.left) (Then (One (IsKind Equals))
-    (Then (IsTermFrom sides.right) (IsWhere sides.conditions))) xs
+  -- "where" condition { "," condition } "end" "where"
+  abbrev pub IsConditions : List Condition → List Lexeme → Type 0
+  IsConditions cs xs =
+      Then (One (IsWord (codes "where")))
+      (Then (Separated (IsKind Comma) IsCondition cs)
+      (Then (One (IsWord (codes "end"))) (One (IsWord (codes "where"))))) xs
 
--- an equation or an include; `include` at the beginning is always the word
-abbrev pub IsItem : EquationItem → List Lexeme → Type 0
-IsItem (Equates sides) xs = (BeginsWith IsInclude xs → ⊥) × IsEquation sides xs
-IsItem (IncludesOperations include names) xs = IsIncludeOf (include, names) xs
+  -- [ "where" condition { "," condition } "end" "where" ]
+  abbrev pub IsWhere : List Condition → List Lexeme → Type 0
+  IsWhere [] xs = xs ≡ []
+  IsWhere (c ∷ cs) xs = IsConditions (c ∷ cs) xs
 
--- "Symbols" symbol items "." "For" "all" variables items "." End, with `;` between items and perhaps behind the last
-abbrev pub IsFile : File → List Lexeme → Type 0
-IsFile file xs =
-    Then (One (IsWord (codes "Symbols")))
-    (Then (Closed (IsKind Semicolon) (IsKind Dot) IsSymbolItem file.symbols)
-    (Then (One (IsWord (codes "For")))
-    (Then (One (IsWord (codes "all")))
-    (Then (IsVariables file.variables)
-    (Then (Closed (IsKind Semicolon) (IsKind Dot) IsItem file.items)
-    (One (IsKind End))))))) xs
+  -- term "=" term [ "where" .. ]
+  abbrev pub IsEquation : Sides → List Lexeme → Type 0
+  IsEquation sides xs =
+      Then (IsTermFrom sides.left) (Then (One (IsKind Equals))
+      (Then (IsTermFrom sides.right) (IsWhere sides.conditions))) xs
 
--- the lexemes are some file
-abbrev pub IsSomeFile : List Lexeme → Type 0
-IsSomeFile xs = parts.Some IsFile xs
+  -- an equation or an include; `include` at the beginning is always the word
+  abbrev pub IsItem : EquationItem → List Lexeme → Type 0
+  IsItem (Equates sides) xs = (BeginsWith IsInclude xs → ⊥) × IsEquation sides xs
+  IsItem (IncludesOperations include names) xs = IsIncludeOf (include, names) xs
 
--- the text is this file
-pub record IsFileText (text : List ℕ) (file : File) : Type 0 where
-  pub lexemes : List Lexeme
-  pub end : ℕ
-  pub scanned : Scans text 0 lexemes end
-  pub spelled : IsFile file lexemes
+  -- "Symbols" symbol items "." "For" "all" variables items "." End, with `;` between items and perhaps behind the last
+  abbrev pub IsFile : File → List Lexeme → Type 0
+  IsFile file xs =
+      Then (One (IsWord (codes "Symbols")))
+      (Then (Closed (IsKind Semicolon) (IsKind Dot) IsSymbolItem file.symbols)
+      (Then (One (IsWord (codes "For")))
+      (Then (One (IsWord (codes "all")))
+      (Then (IsVariables file.variables)
+      (Then (Closed (IsKind Semicolon) (IsKind Dot) IsItem file.items)
+      (One (IsKind End))))))) xs
+
+  -- the lexemes are some file
+  abbrev pub IsSomeFile : List Lexeme → Type 0
+  IsSomeFile xs = parts.Some IsFile xs
+
+  -- the text is this file
+  pub record IsFileText (text : List ℕ) (file : File) : Type 0 where
+    pub lexemes : List Lexeme
+    pub end : ℕ
+    pub scanned : Scans text 0 lexemes end
+    pub spelled : IsFile file lexemes

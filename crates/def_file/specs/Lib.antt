@@ -2,6 +2,7 @@ pub mod Errors
 pub mod Trees
 pub mod Views
 pub mod Reading
+pub mod Notations
 pub mod Grammar
 pub mod Operations
 pub mod Names

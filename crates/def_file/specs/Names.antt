@@ -14,8 +14,9 @@ use Rattle.term_lex.specs.Values.{numeral_value}
 use Rattle.symbol_table.specs.Table.{Table, no_names, Declares, AddsClass, Includes, class_name}
 use Rattle.symbol_table.specs.Variables.{AddsVariable}
 use Rattle.symbol_table.specs.Refusing.{RefusesDeclaration, RefusesInclude, RefusesVariable}
-use Rattle.standmath.specs.Reading.{ReadsPattern}
-use Rattle.standmath.specs.Refusing.{RefusesPattern}
+use Rattle.written_terms.specs.Notation.{Notation}
+use Rattle.written_terms.specs.Reading.{ReadsPattern}
+use Rattle.written_terms.specs.Refusing.{RefusesPattern}
 use Rattle.def_file.specs.Trees.{SymbolItem, Declares as DeclaresSymbol, IncludesClasses, Restriction, InClass, OneOf, Condition, Sides, EquationItem, Equates, IncludesOperations, File}
 use Rattle.def_file.specs.Operations.{operation_name, HasNeeds}
 
@@ -79,26 +80,6 @@ module _ (text : List ℕ) where
   abbrev pub token_bytes : Token → List ℕ
   token_bytes t = slice_range text t.from t.to
 
-  -- what is at the place is no fault, and this is known behind it
-  abbrev pub Takes : Known → Place → Known → Type 0
-  Takes old (Symbol name arity) new = (number : ℕ)
-      × Declares old.table new.table (token_bytes name) (numeral_value (token_bytes arity)) number
-      × (new ≡ record old { table = new.table })
-  Takes old (Class name) new = AddsClass old.table new.table (token_bytes name)
-      × (new ≡ record old { table = new.table })
-  Takes old (Variable name) new = AddsVariable old.table old.variables new.variables (token_bytes name)
-      × (new ≡ record old { variables = new.variables })
-  Takes old (Term byte) new =
-      (pattern : Tree (PatternCell ReadHead)) × (end : ℕ)
-      × ReadsPattern old.table old.variables text byte pattern end × (new ≡ old)
-  Takes old (Qualified before name) new = Contains old.variables (token_bytes name)
-      × (¬ Contains (map token_bytes before) (token_bytes name)) × (new ≡ old)
-  Takes old (ClassOf name) new = (class : SymbolClass) × (token_bytes name ≡ class_name class)
-      × Includes old.table class × (new ≡ old)
-  Takes old (Operation name) new =
-      (op : Op) × (token_bytes name ≡ operation_name op) × (¬ Contains old.operations op)
-      × HasNeeds old.table op × (new ≡ record old { operations = old.operations ++ op ∷ [] })
-
   -- what is wrong with a declaration: its name, or else its arity
   abbrev pub RefusesSymbol : Table → Token → Token → Fault → Type 0
   RefusesSymbol table name arity fault =
@@ -128,19 +109,42 @@ module _ (text : List ℕ) where
       × (¬ Contains known.operations op) × (¬ HasNeeds known.table op)
   RefusesOperation known name kind = ⊥
 
+-- terms are written in the notation
+module _ (notation : Notation) (text : List ℕ) where
+  -- what is at the place is no fault, and this is known behind it
+  abbrev pub Takes : Known → Place → Known → Type 0
+  Takes old (Symbol name arity) new = (number : ℕ)
+      × Declares old.table new.table (token_bytes text name) (numeral_value (token_bytes text arity)) number
+      × (new ≡ record old { table = new.table })
+  Takes old (Class name) new = AddsClass old.table new.table (token_bytes text name)
+      × (new ≡ record old { table = new.table })
+  Takes old (Variable name) new = AddsVariable old.table old.variables new.variables (token_bytes text name)
+      × (new ≡ record old { variables = new.variables })
+  Takes old (Term byte) new =
+      (pattern : Tree (PatternCell ReadHead)) × (end : ℕ)
+      × ReadsPattern notation old.table old.variables text byte pattern end × (new ≡ old)
+  Takes old (Qualified before name) new = Contains old.variables (token_bytes text name)
+      × (¬ Contains (map (token_bytes text) before) (token_bytes text name)) × (new ≡ old)
+  Takes old (ClassOf name) new = (class : SymbolClass) × (token_bytes text name ≡ class_name class)
+      × Includes old.table class × (new ≡ old)
+  Takes old (Operation name) new =
+      (op : Op) × (token_bytes text name ≡ operation_name op) × (¬ Contains old.operations op)
+      × HasNeeds old.table op × (new ≡ record old { operations = old.operations ++ op ∷ [] })
+
   -- what is at the place is this fault
   abbrev pub Refuses : Known → Place → Fault → Type 0
-  Refuses known (Symbol name arity) fault = RefusesSymbol known.table name arity fault
-  Refuses known (Class name) fault = RefusesInclude known.table (token_bytes name) fault.kind
+  Refuses known (Symbol name arity) fault = RefusesSymbol text known.table name arity fault
+  Refuses known (Class name) fault = RefusesInclude known.table (token_bytes text name) fault.kind
       × (fault.byte ≡ name.from)
   Refuses known (Variable name) fault =
-      RefusesVariable known.table known.variables (token_bytes name) fault.kind × (fault.byte ≡ name.from)
-  Refuses known (Term byte) fault = RefusesPattern known.table known.variables text byte fault
-  Refuses known (Qualified before name) fault = RefusesQualified known before (token_bytes name) fault.kind
+      RefusesVariable known.table known.variables (token_bytes text name) fault.kind
       × (fault.byte ≡ name.from)
-  Refuses known (ClassOf name) fault = RefusesClassOf known.table (token_bytes name) fault.kind
+  Refuses known (Term byte) fault = RefusesPattern notation known.table known.variables text byte fault
+  Refuses known (Qualified before name) fault =
+      RefusesQualified text known before (token_bytes text name) fault.kind × (fault.byte ≡ name.from)
+  Refuses known (ClassOf name) fault = RefusesClassOf text known.table (token_bytes text name) fault.kind
       × (fault.byte ≡ name.from)
-  Refuses known (Operation name) fault = RefusesOperation known (token_bytes name) fault.kind
+  Refuses known (Operation name) fault = RefusesOperation text known (token_bytes text name) fault.kind
       × (fault.byte ≡ name.from)
 
   -- none of the places has a fault, and this is known behind them

@@ -5,6 +5,7 @@ use Rattle.eq_base.specs.declared.rules.Op.{Op}
 use Rattle.term_lex.specs.declared.token.Token.{Token}
 use Rattle.term_lex.specs.Values.{IsTokenOf, IsNumeralOf}
 use Rattle.symbol_table.specs.Table.{Table, names_of}
+use Rattle.written_terms.specs.Notation.{Notation}
 use Rattle.def_file.specs.declared.error.FileError.{FileError}
 use Rattle.def_file.specs.declared.tree.Condition.{Condition}
 use Rattle.def_file.specs.declared.naming.Named.{Named}
@@ -31,9 +32,10 @@ abbrev pub ArePlaced : List ℕ → List Place → Type 0
 ArePlaced text places = AllByRecursion (IsPlaced text) places
 
 -- the places were taken, which led from the old names to the new, or the first that has a fault was refused; memory may have run out
-abbrev pub IsTaking : {A : Type 0} → List ℕ → Known → List Place → Known → Result A FileError → Type 0
-IsTaking text old places new (Ok x) = TakesAll text old places new
-IsTaking text old places new (Err error) = IfRefused (RefusesFirst text old places) error
+abbrev pub IsTaking : {A : Type 0} → Notation → List ℕ → Known → List Place → Known → Result A FileError
+    → Type 0
+IsTaking notation text old places new (Ok x) = TakesAll notation text old places new
+IsTaking notation text old places new (Err error) = IfRefused (RefusesFirst notation text old places) error
 
 -- what is known by a table of symbols, with variables and equation classes
 abbrev pub knowing : Table → List (List ℕ) → List Op → Known
@@ -57,16 +59,18 @@ abbrev pub known_of : Named → Known
 known_of named = knowing named.symbols named.variables named.operations.items
 
 -- what the names of a file come to: all of them are taken, or the first that has a fault is refused; memory may have run out
-abbrev pub IsNaming : List ℕ → File → Result Named FileError → Type 0
-IsNaming text file (Ok named) = TakesAll text nothing_known (places_of file) (known_of named)
-IsNaming text file (Err error) = IfRefused (RefusesFirst text nothing_known (places_of file)) error
+abbrev pub IsNaming : Notation → List ℕ → File → Result Named FileError → Type 0
+IsNaming notation text file (Ok named) =
+    TakesAll notation text nothing_known (places_of file) (known_of named)
+IsNaming notation text file (Err error) =
+    IfRefused (RefusesFirst notation text nothing_known (places_of file)) error
 
 -- the text is a file of few enough bytes, whose names have no fault and are these; its items, and the first limit that it passes
-pub record IsNamed (text : List ℕ) (file : File) (named : Named) : Type 0 where
+pub record IsNamed (notation : Notation) (text : List ℕ) (file : File) (named : Named) : Type 0 where
   pub short : length text ≤ 2 ^ 24
-  pub reads : IsFileText text file
-  pub names : TakesAll text nothing_known (places_of file) (known_of named)
-  pub items : MeanItems text (known_of named) 1 file.items
+  pub reads : IsFileText notation text file
+  pub names : TakesAll notation text nothing_known (places_of file) (known_of named)
+  pub items : MeanItems notation text (known_of named) 1 file.items
       (map (numbered_read named.symbols) named.taken.items.items)
   pub live : AreLiveItems named.symbols named.taken.items.items
-  pub limits : AnswersLimits text (known_of named) (all_limits 0 (sides_of file)) named.taken.fault
+  pub limits : AnswersLimits notation text (known_of named) (all_limits 0 (sides_of file)) named.taken.fault

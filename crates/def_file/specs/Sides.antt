@@ -6,7 +6,8 @@ use Rattle.eq_base.specs.Pattern.{PatternCell, fixed}
 use Rattle.eq_base.specs.ReadHead.{ReadHead, symbol}
 use Rattle.term_lex.specs.declared.fault.Fault.{Fault}
 use Rattle.term_lex.specs.declared.fault.FaultKind.TheVariants.{EquationsPast, LeftNotApplication, SideLong}
-use Rattle.standmath.specs.Reading.{ReadsPattern}
+use Rattle.written_terms.specs.Notation.{Notation}
+use Rattle.written_terms.specs.Reading.{ReadsPattern}
 use Rattle.def_file.specs.Trees.{Restriction, InClass, OneOf, Condition, Sides, EquationItem, Equates, IncludesOperations}
 use Rattle.def_file.specs.Names.{Known}
 
@@ -46,10 +47,10 @@ abbrev pub IsSymbolApplied : Tree (PatternCell ReadHead) → Type 0
 IsSymbolApplied (node (fixed (symbol n)) args) = Unit {0}
 IsSymbolApplied pattern = ⊥
 
-module _ (text : List ℕ) (known : Known) where
+module _ (notation : Notation) (text : List ℕ) (known : Known) where
   -- the term from the byte on is this pattern
   abbrev pub IsPattern : ℕ → Tree (PatternCell ReadHead) → Type 0
-  IsPattern byte pattern = (end : ℕ) × ReadsPattern known.table known.variables text byte pattern end
+  IsPattern byte pattern = (end : ℕ) × ReadsPattern notation known.table known.variables text byte pattern end
 
   -- the limit is kept
   abbrev pub KeepsLimit : Limit → Type 0

@@ -10,6 +10,7 @@ use Rattle.eq_base.specs.declared.rules.Op.{Op}
 use Rattle.term_lex.specs.declared.token.Token.{Token}
 use Rattle.term_lex.specs.declared.fault.Fault.{Fault}
 use Rattle.symbol_table.specs.Table.{Table, Keeps, class_name}
+use Rattle.written_terms.specs.Notation.{Notation}
 use Rattle.symbol_table.specs.Reading.{read_pattern, IsLivePattern}
 use Rattle.def_file.specs.declared.naming.conditions.Choice.{Choice}
 use Rattle.def_file.specs.declared.naming.conditions.Choice.TheVariants as choice
@@ -35,10 +36,10 @@ abbrev pub Lasts : (Known → Table → Type 0) → Table → List (List ℕ) �
 Lasts P table variables =
     (later : Table) (operations : List Op) → Keeps table later → P (knowing later variables operations) later
 
-module _ (text : List ℕ) (known : Known) (table : Table) where
+module _ (notation : Notation) (text : List ℕ) (known : Known) (table : Table) where
   -- the term from the byte on is this pattern, as the table reads it, and each number in it is live
   pub record IsSideTaken (byte : ℕ) (pattern : Tree (PatternCell Head)) : Type 0 where
-    pub means : IsPattern text known byte (read_pattern table pattern)
+    pub means : IsPattern notation text known byte (read_pattern table pattern)
     pub live : IsLivePattern table pattern
 
   -- what a variable may stand for: the class of that name, or the patterns of these terms
@@ -57,14 +58,15 @@ module _ (text : List ℕ) (known : Known) (table : Table) where
   pub record TakesEquation (sides : Sides) (taken : TakenEquation) : Type 0 where
     pub left : IsSideTaken sides.left taken.left
     pub right : IsSideTaken sides.right taken.right
-    pub conditions : AreRelated (λ c t. TakesCondition c.variable c.restriction t) sides.conditions taken.conditions.items
+    pub conditions : AreRelated (λ c t. TakesCondition c.variable c.restriction t)
+        sides.conditions taken.conditions.items
 
   -- a written equation with the first limit that it passes, where so many stand before it
   pub record TakesWritten (before : ℕ) (sides : Sides) (equation : Written)
       (fault : Option Fault) : Type 0 where
-    pub means : MeansEquation text known sides (equation_read table equation)
+    pub means : MeansEquation notation text known sides (equation_read table equation)
     pub live : IsLiveWritten table equation
-    pub limits : AnswersLimits text known (limits_of before sides) fault
+    pub limits : AnswersLimits notation text known (limits_of before sides) fault
 
   -- an equation with the first limit that it passes, or equation classes with their first bytes
   abbrev pub TakesItem : ℕ → EquationItem → TakenItem → Type 0

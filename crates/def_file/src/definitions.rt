@@ -1,9 +1,11 @@
 // What a definitions file says.
 ghost use Rattle.std.specs.Prelude.{◌≡◌, ◌≤◌, ◌<◌, ◌↔◌, length, slice_get, Some, IfSome, IsNone};
+ghost use Rattle.std.specs.Slice.Iter.{iter_rest};
 ghost use Rattle.def_file.specs.declared.definitions.Numbered.{Numbered as NumberedItem};
 
 use eq_base::{Op, Pattern};
 use std::marker::Model;
+use std::slice;
 use symbol_table::{Symbols, Variables};
 
 /// The alternatives of a qualified variable. Contracts see the list of them.
@@ -48,6 +50,13 @@ impl Choices {
         ensures { slice_get self.now i ≡ Some result.now }
     {
         &self.alternatives[i]
+    }
+
+    /// The alternatives, one after another.
+    pub fn iter(&self) -> slice::Iter<'_, Pattern>
+        ensures { iter_rest result ≡ self.now }
+    {
+        self.alternatives.iter()
     }
 }
 
@@ -102,6 +111,13 @@ impl Qualifiers {
         ensures { slice_get self.now i ≡ Some result.now }
     {
         &self.list[i]
+    }
+
+    /// The qualifiers, one after another.
+    pub fn iter(&self) -> slice::Iter<'_, Qualifier>
+        ensures { iter_rest result ≡ self.now }
+    {
+        self.list.iter()
     }
 }
 

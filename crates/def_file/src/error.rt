@@ -3,9 +3,9 @@ ghost use Rattle.def_file.specs.Errors.{of_read};
 ghost use Rattle.def_file.specs.declared.error.FileError.TheVariants.{NoMemory as OutOfMemory, Refused};
 
 use eq_base::NoMemory;
-use standmath::ReadError;
 use std::alloc::{AllocError, AllocFailed};
 use term_lex::Fault;
+use written_terms::ReadError;
 
 /// Why a definitions file was not read.
 #[derive(Clone, Copy, PartialEq, Eq, Debug)]

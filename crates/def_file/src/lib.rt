@@ -4,6 +4,7 @@
 mod definitions;
 mod error;
 mod naming;
+mod notations;
 mod phases;
 mod reading;
 mod tree;

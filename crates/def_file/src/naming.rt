@@ -7,6 +7,7 @@ ghost use Rattle.def_file.specs.Naming.{IsNaming, known_of};
 ghost use Rattle.def_file.specs.Sides.{all_limits, AnswersLimits};
 ghost use Rattle.def_file.specs.AsRead.{numbered_read, AreLiveItems};
 ghost use Rattle.def_file.specs.Definitions.{MeanItems, sides_of};
+ghost use Rattle.def_file.specs.Notations.{notation_of};
 
 mod classes;
 mod conditions;
@@ -26,6 +27,7 @@ pub use operations::symbol_of;
 use std::alloc::Global;
 use symbol_table::{Symbols, Variables};
 use symbols::take_symbols;
+use term_lex::Syntax;
 use variables::take_variables;
 
 /// The names of a file, and its items in their terms.
@@ -42,14 +44,20 @@ pub struct Named {
 }
 
 /// Takes the names of the file that the text is.
-pub fn take_names(alloc: Global, text: &[u8], written: &File) -> Result<Named, FileError>
+pub fn take_names(
+    alloc: Global,
+    text: &[u8],
+    syntax: Syntax,
+    written: &File,
+) -> Result<Named, FileError>
     requires short { length text.now ≤ 2 ^ 24 }
-    requires reads { IsFileText text.now (file written.now) }
-    ensures naming { IsNaming text.now (file written.now) result }
-    ensures items { IfOk result (λ named. MeanItems text.now (known_of named) 1 (file written.now).items
+    requires reads { IsFileText (notation_of syntax) text.now (file written.now) }
+    ensures naming { IsNaming (notation_of syntax) text.now (file written.now) result }
+    ensures items { IfOk result (λ named. MeanItems (notation_of syntax) text.now (known_of named) 1
+        (file written.now).items
         (map (numbered_read named.symbols) named.taken.items.items)) }
     ensures live { IfOk result (λ named. AreLiveItems named.symbols named.taken.items.items) }
-    ensures limits { IfOk result (λ named. AnswersLimits text.now (known_of named)
+    ensures limits { IfOk result (λ named. AnswersLimits (notation_of syntax) text.now (known_of named)
         (all_limits 0 (sides_of (file written.now))) named.taken.fault) }
 {
     let mut symbols = Symbols::new(alloc);
@@ -60,6 +68,7 @@ pub fn take_names(alloc: Global, text: &[u8], written: &File) -> Result<Named, F
     let taken = take_items(
         alloc,
         text,
+        syntax,
         &written.items,
         &mut symbols,
         &variables,

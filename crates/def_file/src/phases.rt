@@ -9,6 +9,7 @@ ghost use Rattle.def_file.specs.Definitions.{IsFileFault, IsDefinitions};
 ghost use Rattle.def_file.specs.Naming.{IsNamed};
 ghost use Rattle.def_file.specs.AsRead.{ReadDefinitions, answer_read, AreLiveItems};
 ghost use Rattle.term_lex.specs.declared.fault.Fault.{Fault as FaultValue};
+ghost use Rattle.def_file.specs.Notations.{notation_of};
 
 use crate::definitions::{Definitions, Items};
 use crate::error::FileError;
@@ -23,10 +24,10 @@ use term_lex::{Fault, FaultKind, Syntax};
 const FILE_BYTES: usize = 16_777_216;
 
 /// The file that the text is, if it is of few enough bytes, or the first fault of its length and its reading.
-fn read_short(alloc: Global, text: &[u8]) -> Result<File, FileError>
+fn read_short(alloc: Global, text: &[u8], syntax: Syntax) -> Result<File, FileError>
     ensures short { IfOk result (λ _. length text.now ≤ 2 ^ 24) }
-    ensures reads { IfOk result (λ written. IsFileText text.now (file written)) }
-    ensures refused { IfErr result (IfRefused (IsFileFault text.now)) }
+    ensures reads { IfOk result (λ written. IsFileText (notation_of syntax) text.now (file written)) }
+    ensures refused { IfErr result (IfRefused (IsFileFault (notation_of syntax) text.now)) }
 {
     if text.len() > FILE_BYTES {
         return Err(FileError::Refused(Fault {
@@ -34,27 +35,26 @@ fn read_short(alloc: Global, text: &[u8]) -> Result<File, FileError>
             byte: FILE_BYTES,
         }));
     }
-    let (file, _) = read_file(alloc, text)?;
+    let (file, _) = read_file(alloc, text, syntax)?;
     Ok(file)
 }
 
 /// The file that the text is, and its names, or the first fault of its length, its reading and its names.
-pub fn read_named(alloc: Global, text: &[u8]) -> Result<(File, Named), FileError>
-    ensures ok { IfOk result (λ x. IsNamed text.now (file x.0) x.1) }
-    ensures refused { IfErr result (IfRefused (IsFileFault text.now)) }
+pub fn read_named(alloc: Global, text: &[u8], syntax: Syntax) -> Result<(File, Named), FileError>
+    ensures ok { IfOk result (λ x. IsNamed (notation_of syntax) text.now (file x.0) x.1) }
+    ensures refused { IfErr result (IfRefused (IsFileFault (notation_of syntax) text.now)) }
 {
-    let file = read_short(alloc, text)?;
-    let named = take_names(alloc, text, &file)?;
+    let file = read_short(alloc, text, syntax)?;
+    let named = take_names(alloc, text, syntax, &file)?;
     Ok((file, named))
 }
 
 /// The definitions that a text gives, or its first fault.
 fn definitions_in(alloc: Global, text: &[u8], syntax: Syntax) -> Result<Definitions, FileError>
-    ensures answer { AnswersRight (IsDefinitions text.now) (answer_read result) }
+    ensures answer { AnswersRight (IsDefinitions (notation_of syntax) text.now) (answer_read result) }
     ensures live { IfOk result (λ d. AreLiveItems d.symbols d.items) }
 {
-    let Syntax::Standmath = syntax;
-    let (_, named) = read_named(alloc, text)?;
+    let (_, named) = read_named(alloc, text, syntax)?;
     if let Some(fault) = named.taken.fault {
         return Err(FileError::Refused(fault));
     }
@@ -78,8 +78,9 @@ pub fn read_definitions(
     text: &[u8],
     syntax: Syntax,
 ) -> Result<Definitions, FileError>
-    ensures answer { AnswersRight (IsDefinitions text.now) (answer_read result) }
-    ensures only { (other : Result ReadDefinitions FaultValue) → IsDefinitions text.now other
+    ensures answer { AnswersRight (IsDefinitions (notation_of syntax) text.now) (answer_read result) }
+    ensures only { (other : Result ReadDefinitions FaultValue)
+        → IsDefinitions (notation_of syntax) text.now other
         → AnswersAs other (answer_read result) }
     ensures live { IfOk result (λ d. AreLiveItems d.symbols d.items) }
 {
@@ -93,11 +94,11 @@ pub fn read_definitions(
 /// # Errors
 ///
 /// The first fault of the length and the reading; out of memory.
-pub fn unbuilt_at(alloc: Global, text: &[u8]) -> Result<Option<usize>, FileError>
-    ensures ok { IfOk result (λ byte. (file : WrittenFile) × IsFileText text.now file
+pub fn unbuilt_at(alloc: Global, text: &[u8], syntax: Syntax) -> Result<Option<usize>, FileError>
+    ensures ok { IfOk result (λ byte. (file : WrittenFile) × IsFileText (notation_of syntax) text.now file
         × (byte ≡ slice_get (unbuilt_of file) 0)) }
-    ensures refused { IfErr result (IfRefused (IsFileFault text.now)) }
+    ensures refused { IfErr result (IfRefused (IsFileFault (notation_of syntax) text.now)) }
 {
-    let file = read_short(alloc, text)?;
+    let file = read_short(alloc, text, syntax)?;
     Ok(first_unbuilt(&file))
 }

@@ -283,7 +283,7 @@ fn items_of(alloc: Global, text: &[u8]) -> Option<(usize, Option<usize>)> {
     let Ok(definitions) = read_definitions(alloc, text, Syntax::Standmath) else {
         return None;
     };
-    let Ok(unbuilt) = unbuilt_at(alloc, text) else {
+    let Ok(unbuilt) = unbuilt_at(alloc, text, Syntax::Standmath) else {
         return None;
     };
     Some((definitions.items.into_list().len(), unbuilt))
@@ -420,7 +420,7 @@ fn includes_and_qualifiers(rt: HostRuntime) -> Result<(), Fail> {
             })),
         ),
     ] {
-        assert_eq!(rt; unbuilt_at(rt.alloc(), text), byte);
+        assert_eq!(rt; unbuilt_at(rt.alloc(), text, Syntax::Standmath), byte);
     }
     Ok(())
 }
@@ -433,18 +433,16 @@ fn cells_of(alloc: Global, text: &[u8]) -> Option<(Cell, Cell, Cell, u32)> {
     let Some(Item::Equation(equation)) = definitions.item(1) else {
         return None;
     };
-    if equation.left.len() < 3 || equation.qualifiers.len() < 1 {
-        return None;
-    }
-    let choices = &equation.qualifiers.get(0).choices;
-    if choices.len() < 2 || choices.get(1).len() < 3 {
+    let qualifier = equation.qualifiers.iter().next()?;
+    let choice = qualifier.choices.iter().last()?;
+    if equation.left.len() < 3 || choice.len() < 3 {
         return None;
     }
     let number = definitions.item_number(1);
     Some((
         equation.left.cell(0),
         equation.left.cell(2),
-        choices.get(1).cell(2),
+        choice.cell(2),
         number,
     ))
 }

@@ -120,8 +120,8 @@ module _ (M N : List Lexeme → Lexeme → Fault → Type 0) (text : List ℕ) (
       begun_here : BeginsWith Test r.lexemes
       begun_here = subst (BeginsWith Test) (append-nil r.lexemes) (begins_so next r.lexemes r.end r.scanned [] some)
 
-    pub second_by : ((xs : List Lexeme) (x : Lexeme) (f : Fault) → (BeginsWith Test xs → ⊥) → N xs x f → M xs x f) → (us : List Lexeme) → K us → (BeginsWith Test us → ⊥) → (NextIs Test text at → ⊥) → (r : Result ℕ Fault) → IsAnswerBy N K text at r → IsAnswerBy M (Either Test H K) text at r
-    second_by kinds us some other never (Ok end) (xs, r) = (
+    pub second_by : ((xs : List Lexeme) (x : Lexeme) (f : Fault) → (BeginsWith Test xs → ⊥) → N xs x f → M xs x f) → IsViable (Either Test H K) [] → (NextIs Test text at → ⊥) → (r : Result ℕ Fault) → IsAnswerBy N K text at r → IsAnswerBy M (Either Test H K) text at r
+    second_by kinds some never (Ok end) (xs, r) = (
       xs,
       record {
         scanned = r.scanned;
@@ -132,7 +132,7 @@ module _ (M N : List Lexeme → Lexeme → Fault → Type 0) (text : List ℕ) (
         ];
       },
     )
-    second_by kinds us some other never (Err f) r = record {
+    second_by kinds some never (Err f) r = record {
       lexemes = r.lexemes;
       end = r.end;
       scanned = r.scanned;
@@ -144,7 +144,7 @@ module _ (M N : List Lexeme → Lexeme → Fault → Type 0) (text : List ℕ) (
       ];
     } where
       viable : (xs : List Lexeme) → Scans text at xs r.end → IsViable K xs → IsViable (Either Test H K) xs
-      viable [] s v = (us, inr (other, some))
+      viable [] s v = some
       viable (x ∷ xs) s v = (v.0, inr (λ b. never (x, s.0, b), v.1))
 
 -- One part after the other. M tells the misplaced lexemes of the whole, N those of the part that refuses.

@@ -52,7 +52,7 @@ module _ {V : Type 0} (G : V → List Lexeme → Type 0) (Test : Lexeme → Type
   each_on telling next r a = same_answer telling to from text at r (first_in telling text at Test (Then (Some G) (Some (Each G))) Nothing more_begun more_can next r a)
 
   pub each_end : (NextIs Test text at → ⊥) → IsAnswer (Some (Each G)) text at (Ok at)
-  each_end never = same_by Plainly Plainly (λ xs x f is. is) text at to from (Ok at) (second_by Plainly Plainly text at Test (Then (Some G) (Some (Each G))) Nothing more_begun (λ xs x f b is. is) [] refl (λ b. b) never (Ok at) (nothing_by Plainly text at))
+  each_end never = same_by Plainly Plainly (λ xs x f is. is) text at to from (Ok at) (second_by Plainly Plainly text at Test (Then (Some G) (Some (Each G))) Nothing more_begun (λ xs x f b is. is) ([], inr ((λ b. b), refl)) never (Ok at) (nothing_by Plainly text at))
 
 -- behind a sentence of a closed list stands a separator and the others, or what closes the list
 module _ {V : Type 0} (S C : Lexeme → Type 0) (G : V → List Lexeme → Type 0) (first : List Mark) (mark sign : Mark) (sep_fits : (x : Lexeme) → S x → Fits mark x) (close_fits : (x : Lexeme) → C x → Fits sign x) (other : disjoint (sign ∷ []) (mark ∷ first) ≡ true) where
@@ -76,13 +76,6 @@ module _ {M : (List Lexeme → Type 0) → List Lexeme → Lexeme → Fault → 
 
   one_can : (x : Lexeme) → C x → IsViable (One C) (x ∷ [])
   one_can x c = ([], (x, refl, c))
-
-  some_more : List Lexeme
-  some_more = p.some ++ x0 ∷ []
-
-  is_more : Then (Some G) (Behind S C G) some_more
-  unfolding some_more
-  is_more = (p.some, x0 ∷ [], refl, p.some_is, inr (x0, refl, closes))
 
   sign_other : (y : Lexeme) → C y → HasMark (mark ∷ first) y → ⊥
   sign_other y c h = disjoint_marks (sign ∷ []) (mark ∷ first) y other (inl (close_fits y c)) h
@@ -111,7 +104,7 @@ module _ {M : (List Lexeme → Type 0) → List Lexeme → Lexeme → Fault → 
   closed_end next r a = same_answer telling closed_to closed_from text at r (first_in telling text at C (One C) (Then (Some G) (Behind S C G)) (one_begun C) one_can next r a)
 
   pub closed_on : (NextIs C text at → ⊥) → (r : Result ℕ Fault) → IsAnswerIn M (Then (Some G) (Behind S C G)) text at r → IsAnswerIn M (Some (Closed S C G)) text at r
-  closed_on never r a = same_answer telling closed_to closed_from text at r (second_in telling text at C (One C) (Then (Some G) (Behind S C G)) (one_begun C) no_sign some_more is_more (more_no_sign some_more is_more) never r a)
+  closed_on never r a = same_answer telling closed_to closed_from text at r (second_in telling text at C (One C) (Then (Some G) (Behind S C G)) (one_begun C) no_sign (x0 ∷ [], inl (x0, refl, closes)) never r a)
 
   sep_begun : (xs : List Lexeme) → Then (One S) (Some (Closed S C G)) xs → BeginsWith S xs
   sep_begun xs t = then_begun xs t
@@ -120,7 +113,7 @@ module _ {M : (List Lexeme → Type 0) → List Lexeme → Lexeme → Fault → 
   behind_on next r a = same_answer telling (behind_to S C G first mark sign sep_fits close_fits other) (behind_from S C G first mark sign sep_fits close_fits other) text at r (first_in telling text at S (Then (One S) (Some (Closed S C G))) (One C) sep_begun (then_can (x0 ∷ []) ([], (x0, refl, closes))) next r a)
 
   pub behind_end : (NextIs S text at → ⊥) → (r : Result ℕ Fault) → IsAnswerIn M (One C) text at r → IsAnswerIn M (Behind S C G) text at r
-  behind_end never r a = same_answer telling (behind_to S C G first mark sign sep_fits close_fits other) (behind_from S C G first mark sign sep_fits close_fits other) text at r (second_in telling text at S (Then (One S) (Some (Closed S C G))) (One C) sep_begun no_separator (x0 ∷ []) (x0, refl, closes) (sign_no_sep S C G first mark sign sep_fits close_fits other (x0 ∷ []) (x0, refl, closes)) never r a)
+  behind_end never r a = same_answer telling (behind_to S C G first mark sign sep_fits close_fits other) (behind_from S C G first mark sign sep_fits close_fits other) text at r (second_in telling text at S (Then (One S) (Some (Closed S C G))) (One C) sep_begun no_separator (x0 ∷ [], inr (sign_no_sep S C G first mark sign sep_fits close_fits other (x0 ∷ []) (x0, refl, closes), (x0, refl, closes))) never r a)
 
 -- sentences with separators between them
 module _ {V : Type 0} {Separator : Lexeme → Type 0} {G : V → List Lexeme → Type 0} where

@@ -117,8 +117,8 @@ module _ {M : (List Lexeme → Type 0) → List Lexeme → Lexeme → Fault → 
     closes_either stays [] never (close, is, (more, k)) = (close, is, (more, inr (stays close is, k)))
     closes_either stays (x ∷ xs) never (close, is, (more, k)) = (close, is, (more, inr (never, k)))
 
-    pub second_in : ((x : Lexeme) → IsKind CloseRound x → Test x → ⊥) → (us : List Lexeme) → K us → (BeginsWith Test us → ⊥) → (NextIs Test text at → ⊥) → (r : Result ℕ Fault) → IsAnswerIn M K text at r → IsAnswerIn M (Either Test H K) text at r
-    second_in stays us some other never r a = second_by (M (Either Test H K)) (M K) text at Test H K begun (λ xs x f b is. telling.moved K (Either Test H K) xs xs x f (closes_either stays xs b) (closes_other stays xs b) is) us some other never r a
+    pub second_in : ((x : Lexeme) → IsKind CloseRound x → Test x → ⊥) → IsViable (Either Test H K) [] → (NextIs Test text at → ⊥) → (r : Result ℕ Fault) → IsAnswerIn M K text at r → IsAnswerIn M (Either Test H K) text at r
+    second_in stays some never r a = second_by (M (Either Test H K)) (M K) text at Test H K begun (λ xs x f b is. telling.moved K (Either Test H K) xs xs x f (closes_either stays xs b) (closes_other stays xs b) is) some never r a
 
 -- a test that only lexemes with a mark pass
 pub no_closing : {Test : Lexeme → Type 0} (mark : Mark) → ((x : Lexeme) → Test x → Fits mark x) → NoClose (mark ∷ []) → (x : Lexeme) → IsKind CloseRound x → Test x → ⊥

@@ -10,6 +10,8 @@ ghost use Rattle.def_file.specs.Names.{Qualified, ClassOf, token_bytes, restrict
 ghost use Rattle.def_file.specs.Naming.{ArePlaced, IsPlaced, IsTaking, knowing, qualified_names};
 ghost use Rattle.def_file.specs.Pairs.{AreRelated};
 ghost use Rattle.def_file.specs.Taking.{Lasts, TakesChoice, TakesCondition};
+ghost use Rattle.term_lex.specs.declared.syntax.Syntax.{Syntax as SyntaxValue};
+ghost use Rattle.def_file.specs.Notations.{notation_of};
 
 use super::faults::{bytes_of, refused};
 use super::operations::includes;
@@ -19,7 +21,7 @@ use crate::tree::{Condition, Restriction};
 use eq_base::{Pattern, SymbolClass};
 use std::alloc::Global;
 use symbol_table::{Symbols, Variables, class_named};
-use term_lex::{FaultKind, Token};
+use term_lex::{FaultKind, Syntax, Token};
 
 /// What a qualified variable may stand for.
 #[derive(Drop)]
@@ -70,8 +72,8 @@ fn take_qualified(
     variables: &Variables,
 ) -> Result<u32, FileError>
     requires placed { IsPlaced text.now (Qualified (qualified_names before.now) name) }
-    ensures taking { (table : Table) (operations : List Operator)
-        → IsTaking text.now (knowing table variables.now operations)
+    ensures taking { (syntax : SyntaxValue) (table : Table) (operations : List Operator)
+        → IsTaking (notation_of syntax) text.now (knowing table variables.now operations)
         (Qualified (qualified_names before.now) name ∷ []) (knowing table variables.now operations) result }
     ensures variable { IfOk result (λ x. slice_get variables.now x ≡ Some (token_bytes text.now name)) }
 {
@@ -87,8 +89,9 @@ fn take_qualified(
 /// The included class behind `is in`.
 fn take_class_of(text: &[u8], name: Token, symbols: &Symbols) -> Result<SymbolClass, FileError>
     requires placed { IsPlaced text.now (ClassOf name) }
-    ensures taking { (variables : List (List ℕ)) (operations : List Operator)
-        → IsTaking text.now (knowing symbols.now variables operations) (ClassOf name ∷ [])
+    ensures taking { (syntax : SyntaxValue) (variables : List (List ℕ)) (operations : List Operator)
+        → IsTaking (notation_of syntax) text.now (knowing symbols.now variables operations)
+        (ClassOf name ∷ [])
         (knowing symbols.now variables operations) result }
     ensures class { IfOk result (λ class. token_bytes text.now name ≡ class_name class) }
 {
@@ -105,16 +108,17 @@ fn take_class_of(text: &[u8], name: Token, symbols: &Symbols) -> Result<SymbolCl
 fn take_restriction(
     alloc: Global,
     text: &[u8],
+    syntax: Syntax,
     written: &Restriction,
     symbols: &mut Symbols,
     variables: &Variables,
 ) -> Result<Choice, FileError>
     requires placed { ArePlaced text.now (restriction_places (restriction written.now)) }
     ensures taking { (operations : List Operator)
-        → IsTaking text.now (knowing symbols.old variables.now operations)
+        → IsTaking (notation_of syntax) text.now (knowing symbols.old variables.now operations)
         (restriction_places (restriction written.now)) (knowing symbols.new variables.now operations) result }
     ensures choice { IfOk result (λ choice. Lasts
-        (λ known table. TakesChoice text.now known table
+        (λ known table. TakesChoice (notation_of syntax) text.now known table
         (restriction written.now) choice) symbols.new variables.now) }
     ensures keeps { Keeps symbols.old symbols.new }
 {
@@ -124,7 +128,7 @@ fn take_restriction(
             Ok(Choice::InClass(class))
         }
         Restriction::OneOf(terms) => {
-            let patterns = take_terms(alloc, text, terms, symbols, variables)?;
+            let patterns = take_terms(alloc, text, syntax, terms, symbols, variables)?;
             Ok(Choice::OneOf(patterns))
         }
     }
@@ -134,6 +138,7 @@ fn take_restriction(
 fn take_condition(
     alloc: Global,
     text: &[u8],
+    syntax: Syntax,
     before: &[Condition],
     condition: &Condition,
     symbols: &mut Symbols,
@@ -143,17 +148,25 @@ fn take_condition(
         (Qualified (qualified_names before.now) condition.now.variable
         ∷ restriction_places (restriction condition.now.restriction)) }
     ensures taking { (operations : List Operator)
-        → IsTaking text.now (knowing symbols.old variables.now operations)
+        → IsTaking (notation_of syntax) text.now (knowing symbols.old variables.now operations)
         (Qualified (qualified_names before.now) condition.now.variable
         ∷ restriction_places (restriction condition.now.restriction))
         (knowing symbols.new variables.now operations) result }
     ensures condition { IfOk result
-        (λ taken. Lasts (λ known table. TakesCondition text.now known table condition.now.variable
+        (λ taken. Lasts (λ known table. TakesCondition
+        (notation_of syntax) text.now known table condition.now.variable
         (restriction condition.now.restriction) taken) symbols.new variables.now) }
     ensures keeps { Keeps symbols.old symbols.new }
 {
     let variable = take_qualified(text, before, condition.variable, variables)?;
-    let choice = take_restriction(alloc, text, &condition.restriction, symbols, variables)?;
+    let choice = take_restriction(
+        alloc,
+        text,
+        syntax,
+        &condition.restriction,
+        symbols,
+        variables,
+    )?;
     Ok(TakenCondition {
         variable,
         choice,
@@ -165,24 +178,33 @@ fn take_condition(
 pub fn take_conditions(
     alloc: Global,
     text: &[u8],
+    syntax: Syntax,
     conditions: &[Condition],
     symbols: &mut Symbols,
     variables: &Variables,
 ) -> Result<Vec<TakenCondition>, FileError>
     requires placed { ArePlaced text.now (condition_places [] (map condition conditions.now)) }
     ensures taking { (operations : List Operator)
-        → IsTaking text.now (knowing symbols.old variables.now operations)
+        → IsTaking (notation_of syntax) text.now (knowing symbols.old variables.now operations)
         (condition_places [] (map condition conditions.now))
         (knowing symbols.new variables.now operations) result }
     ensures conditions { IfOk result
         (λ taken. Lasts (λ known table. AreRelated
-        (λ c t. TakesCondition text.now known table c.variable c.restriction t)
+        (λ c t. TakesCondition (notation_of syntax) text.now known table c.variable c.restriction t)
         (map condition conditions.now) taken.items) symbols.new variables.now) }
     ensures keeps { Keeps symbols.old symbols.new }
 {
     let mut taken = Vec::new(alloc);
     for (i, next) in conditions.iter().enumerate() {
-        let condition = take_condition(alloc, text, &conditions[..i], next, symbols, variables)?;
+        let condition = take_condition(
+            alloc,
+            text,
+            syntax,
+            &conditions[..i],
+            next,
+            symbols,
+            variables,
+        )?;
         taken.push(condition)?;
     }
     Ok(taken)

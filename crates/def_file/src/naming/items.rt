@@ -12,6 +12,8 @@ ghost use Rattle.def_file.specs.Sides.{equation_of, all_limits, AnswersLimits};
 ghost use Rattle.def_file.specs.AsRead.{numbered_read, AreLiveItems};
 ghost use Rattle.def_file.specs.Definitions.{MeanItems};
 ghost use Rattle.def_file.specs.Taking.{Lasts, TakesEquation, TakesItem, class_item, items_behind, equations_behind, fault_behind};
+ghost use Rattle.term_lex.specs.declared.syntax.Syntax.{Syntax as SyntaxValue};
+ghost use Rattle.def_file.specs.Notations.{notation_of};
 
 use super::classes::written;
 use super::conditions::{TakenCondition, take_conditions};
@@ -24,7 +26,7 @@ use crate::tree::{EquationItem, Sides};
 use eq_base::{NoMemory, Op, Pattern};
 use std::alloc::Global;
 use symbol_table::{Symbols, Variables};
-use term_lex::{Fault, Token};
+use term_lex::{Fault, Syntax, Token};
 
 /// An equation whose names are known.
 #[derive(Drop)]
@@ -50,22 +52,30 @@ pub enum TakenItem {
 fn take_equation(
     alloc: Global,
     text: &[u8],
+    syntax: Syntax,
     equation: &Sides,
     symbols: &mut Symbols,
     variables: &Variables,
 ) -> Result<TakenEquation, FileError>
     requires placed { ArePlaced text.now (equation_places (sides equation.now)) }
     ensures taking { (operations : List Operator)
-        → IsTaking text.now (knowing symbols.old variables.now operations)
+        → IsTaking (notation_of syntax) text.now (knowing symbols.old variables.now operations)
         (equation_places (sides equation.now)) (knowing symbols.new variables.now operations) result }
     ensures equation { IfOk result (λ taken. Lasts
-        (λ known table. TakesEquation text.now known table
+        (λ known table. TakesEquation (notation_of syntax) text.now known table
         (sides equation.now) taken) symbols.new variables.now) }
     ensures keeps { Keeps symbols.old symbols.new }
 {
-    let left = take_term(alloc, text, equation.left, symbols, variables)?;
-    let right = take_term(alloc, text, equation.right, symbols, variables)?;
-    let conditions = take_conditions(alloc, text, &equation.conditions, symbols, variables)?;
+    let left = take_term(alloc, text, syntax, equation.left, symbols, variables)?;
+    let right = take_term(alloc, text, syntax, equation.right, symbols, variables)?;
+    let conditions = take_conditions(
+        alloc,
+        text,
+        syntax,
+        &equation.conditions,
+        symbols,
+        variables,
+    )?;
     Ok(TakenEquation {
         left,
         right,
@@ -82,8 +92,9 @@ fn take_operations(
     operations: &mut Vec<Op>,
 ) -> Result<Vec<(Op, usize)>, FileError>
     requires placed { ArePlaced text.now (map Operation names.now) }
-    ensures taking { (variables : List (List ℕ))
-        → IsTaking text.now (knowing symbols.now variables operations.old.items) (map Operation names.now)
+    ensures taking { (syntax : SyntaxValue) (variables : List (List ℕ))
+        → IsTaking (notation_of syntax) text.now (knowing symbols.now variables operations.old.items)
+        (map Operation names.now)
         (knowing symbols.now variables operations.new.items) result }
     ensures operations { IfOk result
         (λ taken. AreRelated (λ name o. (token_bytes text.now name ≡ operation_name o.0)
@@ -101,6 +112,7 @@ fn take_operations(
 fn take_item(
     alloc: Global,
     text: &[u8],
+    syntax: Syntax,
     item: &EquationItem,
     before: usize,
     symbols: &mut Symbols,
@@ -108,17 +120,18 @@ fn take_item(
     operations: &mut Vec<Op>,
 ) -> Result<TakenItem, FileError>
     requires placed { ArePlaced text.now (item_places (equation_item item.now)) }
-    ensures taking { IsTaking text.now (knowing symbols.old variables.now operations.old.items)
+    ensures taking { IsTaking (notation_of syntax) text.now
+        (knowing symbols.old variables.now operations.old.items)
         (item_places (equation_item item.now))
         (knowing symbols.new variables.now operations.new.items) result }
     ensures item { IfOk result (λ taken. Lasts
-        (λ known table. TakesItem text.now known table before
+        (λ known table. TakesItem (notation_of syntax) text.now known table before
         (equation_item item.now) taken) symbols.new variables.now) }
     ensures keeps { Keeps symbols.old symbols.new }
 {
     match item {
         EquationItem::Equates(equation) => {
-            let taken = take_equation(alloc, text, equation, symbols, variables)?;
+            let taken = take_equation(alloc, text, syntax, equation, symbols, variables)?;
             let fault = equation_fault(before, equation, &taken);
             let written = written(alloc, equation.left, taken)?;
             Ok(TakenItem::Equates(written, fault))
@@ -187,6 +200,7 @@ impl Taken {
 pub fn take_items(
     alloc: Global,
     text: &[u8],
+    syntax: Syntax,
     items: &[EquationItem],
     symbols: &mut Symbols,
     variables: &Variables,
@@ -194,16 +208,17 @@ pub fn take_items(
 ) -> Result<Taken, FileError>
     requires placed { ArePlaced text.now (flat_map item_places (map equation_item items.now)) }
     requires room { length items.now ≤ 2 ^ 24 }
-    ensures taking { IsTaking text.now (knowing symbols.old variables.now operations.old.items)
+    ensures taking { IsTaking (notation_of syntax) text.now
+        (knowing symbols.old variables.now operations.old.items)
         (flat_map item_places (map equation_item items.now))
         (knowing symbols.new variables.now operations.new.items) result }
     ensures items { IfOk result (λ taken. Lasts
-        (λ known table. MeanItems text.now known 1 (map equation_item items.now)
+        (λ known table. MeanItems (notation_of syntax) text.now known 1 (map equation_item items.now)
         (map (numbered_read table) taken.items.items)) symbols.new variables.now) }
     ensures live { IfOk result (λ taken. Lasts
         (λ known table. AreLiveItems table taken.items.items) symbols.new variables.now) }
     ensures limits { IfOk result (λ taken. Lasts
-        (λ known table. AnswersLimits text.now known
+        (λ known table. AnswersLimits (notation_of syntax) text.now known
         (all_limits 0 (flat_map equation_of
         (map equation_item items.now))) taken.fault) symbols.new variables.now) }
     ensures keeps { Keeps symbols.old symbols.new }
@@ -215,7 +230,9 @@ pub fn take_items(
     };
     for (i, item) in items.iter().enumerate() {
         let before = taken.equations;
-        let next = take_item(alloc, text, item, before, symbols, variables, operations)?;
+        let next = take_item(
+            alloc, text, syntax, item, before, symbols, variables, operations,
+        )?;
         taken.push(i as u32 + 1, next)?;
     }
     Ok(taken)

@@ -9,6 +9,8 @@ ghost use Rattle.def_file.specs.Pairs.{AreRelated};
 ghost use Rattle.def_file.specs.Sides.{Cells, alternatives_in, alternatives_of, limits_of, AnswersLimits};
 ghost use Rattle.def_file.specs.Taking.{IsSideTaken, HasDeclaredRoot, TakesChoice, TakesCondition, TakesEquation};
 ghost use Rattle.def_file.specs.declared.naming.conditions.TakenCondition.{TakenCondition as TakenValue};
+ghost use Rattle.term_lex.specs.declared.syntax.Syntax.{Syntax as SyntaxValue};
+ghost use Rattle.def_file.specs.Notations.{notation_of};
 
 use super::conditions::{Choice, TakenCondition};
 use super::items::TakenEquation;
@@ -37,9 +39,9 @@ fn is_application(pattern: &Pattern) -> bool
 
 /// The first of the alternatives that is too long.
 fn alternatives_fault(terms: &[usize], patterns: &[Pattern]) -> Option<Fault>
-    ensures { (text : List ℕ) (known : Known) (table : Table)
-        → AreRelated (IsSideTaken text known table) terms.now patterns.now
-        → AnswersLimits text known (map (Cells 255) terms.now) result }
+    ensures { (syntax : SyntaxValue) (text : List ℕ) (known : Known) (table : Table)
+        → AreRelated (IsSideTaken (notation_of syntax) text known table) terms.now patterns.now
+        → AnswersLimits (notation_of syntax) text known (map (Cells 255) terms.now) result }
 {
     for (i, byte) in terms.iter().enumerate() {
         let Some(pattern) = patterns.get(i) else {
@@ -57,9 +59,10 @@ fn alternatives_fault(terms: &[usize], patterns: &[Pattern]) -> Option<Fault>
 
 /// The first alternative behind `is` that is too long.
 fn choice_fault(written: &Restriction, taken: &Choice) -> Option<Fault>
-    ensures { (text : List ℕ) (known : Known) (table : Table)
-        → TakesChoice text known table (restriction written.now) taken.now
-        → AnswersLimits text known (map (Cells 255) (alternatives_in (restriction written.now))) result }
+    ensures { (syntax : SyntaxValue) (text : List ℕ) (known : Known) (table : Table)
+        → TakesChoice (notation_of syntax) text known table (restriction written.now) taken.now
+        → AnswersLimits (notation_of syntax) text known (map (Cells 255) (alternatives_in
+        (restriction written.now))) result }
 {
     match (written, taken) {
         (Restriction::OneOf(terms), Choice::OneOf(patterns)) => alternatives_fault(terms, patterns),
@@ -69,11 +72,12 @@ fn choice_fault(written: &Restriction, taken: &Choice) -> Option<Fault>
 
 /// The first alternative of conditions that is too long.
 fn conditions_fault(conditions: &[Condition], taken: &[TakenCondition]) -> Option<Fault>
-    ensures { (text : List ℕ) (known : Known) (table : Table)
+    ensures { (syntax : SyntaxValue) (text : List ℕ) (known : Known) (table : Table)
         → AreRelated
-        (λ (c : WrittenCondition) (t : TakenValue). TakesCondition text known table c.variable c.restriction t)
+        (λ (c : WrittenCondition) (t : TakenValue). TakesCondition
+        (notation_of syntax) text known table c.variable c.restriction t)
         (map condition conditions.now) taken.now
-        → AnswersLimits text known (map (Cells 255)
+        → AnswersLimits (notation_of syntax) text known (map (Cells 255)
         (flat_map alternatives_of (map condition conditions.now))) result }
 {
     for (i, written) in conditions.iter().enumerate() {
@@ -90,9 +94,9 @@ fn conditions_fault(conditions: &[Condition], taken: &[TakenCondition]) -> Optio
 
 /// The first limit that an equation passes, where so many stand before it.
 pub fn equation_fault(before: usize, written: &Sides, taken: &TakenEquation) -> Option<Fault>
-    ensures { (text : List ℕ) (known : Known) (table : Table)
-        → TakesEquation text known table (sides written.now) taken.now
-        → AnswersLimits text known (limits_of before (sides written.now)) result }
+    ensures { (syntax : SyntaxValue) (text : List ℕ) (known : Known) (table : Table)
+        → TakesEquation (notation_of syntax) text known table (sides written.now) taken.now
+        → AnswersLimits (notation_of syntax) text known (limits_of before (sides written.now)) result }
 {
     if before >= EQUATIONS {
         return Some(Fault {

@@ -6,6 +6,8 @@ ghost use Rattle.symbol_table.specs.Table.{IsDeclared, Includes, names_of};
 ghost use Rattle.def_file.specs.Operations.{operation_name, operation_symbol, operation_classes, HasNeeds};
 ghost use Rattle.def_file.specs.Names.{Operation, token_bytes};
 ghost use Rattle.def_file.specs.Naming.{IsPlaced, ArePlaced, IsTaking, knowing};
+ghost use Rattle.term_lex.specs.declared.syntax.Syntax.{Syntax as SyntaxValue};
+ghost use Rattle.def_file.specs.Notations.{notation_of};
 
 use super::faults::{bytes_of, refused};
 use crate::error::FileError;
@@ -144,8 +146,9 @@ pub fn take_operation(
     operations: &mut Vec<Op>,
 ) -> Result<Op, FileError>
     requires placed { IsPlaced text.now (Operation name) }
-    ensures taking { (variables : List (List ℕ))
-        → IsTaking text.now (knowing symbols.now variables operations.old.items) (Operation name ∷ [])
+    ensures taking { (syntax : SyntaxValue) (variables : List (List ℕ))
+        → IsTaking (notation_of syntax) text.now (knowing symbols.now variables operations.old.items)
+        (Operation name ∷ [])
         (knowing symbols.now variables operations.new.items) result }
     ensures named { IfOk result (λ op. token_bytes text.now name ≡ operation_name op) }
 {

@@ -6,6 +6,8 @@ ghost use Rattle.def_file.specs.Names.{Symbol, Class, symbol_places};
 ghost use Rattle.def_file.specs.Naming.{only_symbols};
 ghost use Rattle.def_file.specs.Errors.{declaration_error};
 ghost use Rattle.def_file.specs.Naming.{IsPlaced, ArePlaced, IsTaking};
+ghost use Rattle.term_lex.specs.declared.syntax.Syntax.{Syntax as SyntaxValue};
+ghost use Rattle.def_file.specs.Notations.{notation_of};
 
 use super::faults::{bytes_of, refused_at};
 use crate::error::FileError;
@@ -32,7 +34,8 @@ fn take_declaration(
 ) -> Result<(), FileError>
     requires placed { IsPlaced text.now (Symbol name arity) }
     requires room { 2 + length symbols.old.declared < 2 ^ 32 }
-    ensures taking { IsTaking text.now (only_symbols symbols.old) (Symbol name arity ∷ [])
+    ensures taking { (syntax : SyntaxValue) → IsTaking (notation_of syntax) text.now
+        (only_symbols symbols.old) (Symbol name arity ∷ [])
         (only_symbols symbols.new) result }
     ensures few { length symbols.new.declared ≤ length symbols.old.declared + 1 }
 {
@@ -45,7 +48,8 @@ fn take_declaration(
 /// Includes a class of symbols.
 fn take_class(text: &[u8], name: Token, symbols: &mut Symbols) -> Result<(), FileError>
     requires placed { IsPlaced text.now (Class name) }
-    ensures taking { IsTaking text.now (only_symbols symbols.old) (Class name ∷ [])
+    ensures taking { (syntax : SyntaxValue) → IsTaking (notation_of syntax) text.now
+        (only_symbols symbols.old) (Class name ∷ [])
         (only_symbols symbols.new) result }
     ensures few { symbols.new.declared ≡ symbols.old.declared }
 {
@@ -58,7 +62,8 @@ fn take_class(text: &[u8], name: Token, symbols: &mut Symbols) -> Result<(), Fil
 /// Includes classes of symbols.
 fn take_classes(text: &[u8], names: &[Token], symbols: &mut Symbols) -> Result<(), FileError>
     requires placed { ArePlaced text.now (map Class names.now) }
-    ensures taking { IsTaking text.now (only_symbols symbols.old) (map Class names.now)
+    ensures taking { (syntax : SyntaxValue) → IsTaking (notation_of syntax) text.now
+        (only_symbols symbols.old) (map Class names.now)
         (only_symbols symbols.new) result }
     ensures few { symbols.new.declared ≡ symbols.old.declared }
 {
@@ -72,7 +77,8 @@ fn take_classes(text: &[u8], names: &[Token], symbols: &mut Symbols) -> Result<(
 fn take_item(text: &[u8], item: &SymbolItem, symbols: &mut Symbols) -> Result<(), FileError>
     requires placed { ArePlaced text.now (symbol_places (symbol_item item.now)) }
     requires room { 2 + length symbols.old.declared < 2 ^ 32 }
-    ensures taking { IsTaking text.now (only_symbols symbols.old) (symbol_places (symbol_item item.now))
+    ensures taking { (syntax : SyntaxValue) → IsTaking (notation_of syntax) text.now
+        (only_symbols symbols.old) (symbol_places (symbol_item item.now))
         (only_symbols symbols.new) result }
     ensures few { length symbols.new.declared ≤ length symbols.old.declared + 1 }
 {
@@ -90,7 +96,7 @@ pub fn take_symbols(
 ) -> Result<(), FileError>
     requires placed { ArePlaced text.now (flat_map symbol_places (map symbol_item items.now)) }
     requires room { 2 + (length symbols.old.declared + length items.now) < 2 ^ 32 }
-    ensures { IsTaking text.now (only_symbols symbols.old)
+    ensures { (syntax : SyntaxValue) → IsTaking (notation_of syntax) text.now (only_symbols symbols.old)
         (flat_map symbol_places (map symbol_item items.now)) (only_symbols symbols.new) result }
 {
     for item in items {

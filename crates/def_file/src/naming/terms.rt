@@ -6,30 +6,35 @@ ghost use Rattle.def_file.specs.Names.{Term};
 ghost use Rattle.def_file.specs.Naming.{ArePlaced, IsTaking, knowing};
 ghost use Rattle.def_file.specs.Pairs.{AreRelated};
 ghost use Rattle.def_file.specs.Taking.{Lasts, IsSideTaken};
+ghost use Rattle.def_file.specs.Notations.{notation_of};
 
 use crate::error::FileError;
+use crate::notations::read_pattern;
 use eq_base::Pattern;
-use standmath::read_pattern;
 use std::alloc::Global;
 use symbol_table::{Symbols, Variables};
+use term_lex::Syntax;
 
 /// The pattern of the term that begins at the byte.
 pub fn take_term(
     alloc: Global,
     text: &[u8],
+    syntax: Syntax,
     byte: usize,
     symbols: &mut Symbols,
     variables: &Variables,
 ) -> Result<Pattern, FileError>
     requires placed { byte ≤ length text.now }
     ensures taking { (operations : List Operator)
-        → IsTaking text.now (knowing symbols.old variables.now operations) (Term byte ∷ [])
+        → IsTaking (notation_of syntax) text.now (knowing symbols.old variables.now operations)
+        (Term byte ∷ [])
         (knowing symbols.new variables.now operations) result }
     ensures pattern { IfOk result (λ pattern. Lasts
-        (λ known table. IsSideTaken text.now known table byte pattern) symbols.new variables.now) }
+        (λ known table. IsSideTaken (notation_of syntax) text.now known table byte pattern) symbols.new
+        variables.now) }
     ensures keeps { Keeps symbols.old symbols.new }
 {
-    let (pattern, _) = read_pattern(alloc, symbols, variables, text, byte)?;
+    let (pattern, _) = read_pattern(alloc, syntax, symbols, variables, text, byte)?;
     Ok(pattern)
 }
 
@@ -37,22 +42,25 @@ pub fn take_term(
 pub fn take_terms(
     alloc: Global,
     text: &[u8],
+    syntax: Syntax,
     terms: &[usize],
     symbols: &mut Symbols,
     variables: &Variables,
 ) -> Result<Vec<Pattern>, FileError>
     requires placed { ArePlaced text.now (map Term terms.now) }
     ensures taking { (operations : List Operator)
-        → IsTaking text.now (knowing symbols.old variables.now operations) (map Term terms.now)
+        → IsTaking (notation_of syntax) text.now (knowing symbols.old variables.now operations)
+        (map Term terms.now)
         (knowing symbols.new variables.now operations) result }
     ensures patterns { IfOk result (λ patterns. Lasts
-        (λ known table. AreRelated (IsSideTaken text.now known table) terms.now patterns.items)
+        (λ known table. AreRelated (IsSideTaken (notation_of syntax) text.now known table) terms.now
+        patterns.items)
         symbols.new variables.now) }
     ensures keeps { Keeps symbols.old symbols.new }
 {
     let mut patterns = Vec::new(alloc);
     for byte in terms {
-        let pattern = take_term(alloc, text, *byte, symbols, variables)?;
+        let pattern = take_term(alloc, text, syntax, *byte, symbols, variables)?;
         patterns.push(pattern)?;
     }
     Ok(patterns)

@@ -2,6 +2,8 @@
 ghost use Rattle.std.specs.Prelude.{◌≡◌, ◌+◌, ◌<◌, ◌≤◌, ◌^◌, ◌∷◌, [], length, map};
 ghost use Rattle.def_file.specs.Names.{Variable};
 ghost use Rattle.def_file.specs.Naming.{IsPlaced, ArePlaced, IsTaking, no_operations};
+ghost use Rattle.term_lex.specs.declared.syntax.Syntax.{Syntax as SyntaxValue};
+ghost use Rattle.def_file.specs.Notations.{notation_of};
 
 use super::faults::{bytes_of, refused_at};
 use crate::error::FileError;
@@ -17,7 +19,8 @@ fn take_variable(
 ) -> Result<(), FileError>
     requires placed { IsPlaced text.now (Variable name) }
     requires room { length variables.old < 2 ^ 32 }
-    ensures taking { IsTaking text.now (no_operations symbols.now variables.old) (Variable name ∷ [])
+    ensures taking { (syntax : SyntaxValue) → IsTaking (notation_of syntax) text.now
+        (no_operations symbols.now variables.old) (Variable name ∷ [])
         (no_operations symbols.now variables.new) result }
     ensures few { length variables.new ≤ length variables.old + 1 }
 {
@@ -36,7 +39,8 @@ pub fn take_variables(
 ) -> Result<(), FileError>
     requires placed { ArePlaced text.now (map Variable names.now) }
     requires room { length variables.old + length names.now < 2 ^ 32 }
-    ensures { IsTaking text.now (no_operations symbols.now variables.old) (map Variable names.now)
+    ensures { (syntax : SyntaxValue) → IsTaking (notation_of syntax) text.now
+        (no_operations symbols.now variables.old) (map Variable names.now)
         (no_operations symbols.now variables.new) result }
 {
     for name in names {

@@ -4,14 +4,15 @@ ghost use Rattle.term_lex.specs.declared.token.TokenKind.TheVariants.{Comma};
 ghost use Rattle.term_lex.specs.Parts.{IsKind, Led, Separated};
 ghost use Rattle.def_file.specs.Grammar.{IsInClass, IsOneOf, IsRestriction, IsCondition, IsWhere, IsConditions};
 ghost use Rattle.def_file.specs.Views.{restriction, condition};
-ghost use Rattle.def_file.specs.Reading.{IsReadBy};
+ghost use Rattle.def_file.specs.Reading.{IsReadBy, IsReadIn};
+ghost use Rattle.def_file.specs.Notations.{notation_of};
 
 use super::terms::read_terms;
 use super::tokens::{next_is, next_is_word, read_token, skip_kind, skip_word};
 use crate::error::FileError;
 use crate::tree::{Condition, Restriction};
 use std::alloc::Global;
-use term_lex::{Token, TokenKind};
+use term_lex::{Syntax, Token, TokenKind};
 
 /// The word `in` and a class.
 fn read_in(text: &[u8], at: usize) -> Result<(Token, usize), FileError>
@@ -24,12 +25,18 @@ fn read_in(text: &[u8], at: usize) -> Result<(Token, usize), FileError>
 }
 
 /// The word `either`, alternatives and the words `end or`.
-fn read_either(alloc: Global, text: &[u8], at: usize) -> Result<(Vec<usize>, usize), FileError>
+fn read_either(
+    alloc: Global,
+    text: &[u8],
+    syntax: Syntax,
+    at: usize,
+) -> Result<(Vec<usize>, usize), FileError>
     requires { at ≤ length text.now }
-    ensures { IsReadBy IsOneOf (λ terms. terms.items) text.now at result }
+    ensures { let notation = notation_of syntax in
+        IsReadIn notation (IsOneOf notation) (λ terms. terms.items) text.now at result }
 {
     let terms_at = skip_word(text, at, b"either")?;
-    let (terms, end_at) = read_terms(alloc, text, terms_at)?;
+    let (terms, end_at) = read_terms(alloc, text, syntax, terms_at)?;
     let or_at = skip_word(text, end_at, b"end")?;
     let end = skip_word(text, or_at, b"or")?;
     Ok((terms, end))
@@ -39,27 +46,35 @@ fn read_either(alloc: Global, text: &[u8], at: usize) -> Result<(Vec<usize>, usi
 fn read_restriction(
     alloc: Global,
     text: &[u8],
+    syntax: Syntax,
     at: usize,
 ) -> Result<(Restriction, usize), FileError>
     requires { at ≤ length text.now }
-    ensures { IsReadBy IsRestriction restriction text.now at result }
+    ensures { let notation = notation_of syntax in
+        IsReadIn notation (IsRestriction notation) restriction text.now at result }
 {
     if next_is_word(text, at, b"in") {
         let (class, class_end) = read_in(text, at)?;
         return Ok((Restriction::InClass(class), class_end));
     }
-    let (terms, end) = read_either(alloc, text, at)?;
+    let (terms, end) = read_either(alloc, text, syntax, at)?;
     Ok((Restriction::OneOf(terms), end))
 }
 
 /// A variable and what it may stand for.
-fn read_condition(alloc: Global, text: &[u8], at: usize) -> Result<(Condition, usize), FileError>
+fn read_condition(
+    alloc: Global,
+    text: &[u8],
+    syntax: Syntax,
+    at: usize,
+) -> Result<(Condition, usize), FileError>
     requires { at ≤ length text.now }
-    ensures { IsReadBy IsCondition condition text.now at result }
+    ensures { let notation = notation_of syntax in
+        IsReadIn notation (IsCondition notation) condition text.now at result }
 {
     let (variable, is_at) = read_token(text, at, TokenKind::Name)?;
     let restriction_at = skip_word(text, is_at, b"is")?;
-    let (restriction, end) = read_restriction(alloc, text, restriction_at)?;
+    let (restriction, end) = read_restriction(alloc, text, syntax, restriction_at)?;
     let condition = Condition {
         variable,
         restriction,
@@ -71,13 +86,15 @@ fn read_condition(alloc: Global, text: &[u8], at: usize) -> Result<(Condition, u
 fn read_next_condition(
     alloc: Global,
     text: &[u8],
+    syntax: Syntax,
     at: usize,
 ) -> Result<(Condition, usize), FileError>
     requires { at ≤ length text.now }
-    ensures { IsReadBy (Led (IsKind Comma) IsCondition) condition text.now at result }
+    ensures { let notation = notation_of syntax in
+        IsReadIn notation (Led (IsKind Comma) (IsCondition notation)) condition text.now at result }
 {
     let condition_at = skip_kind(text, at, TokenKind::Comma)?;
-    let (condition, end) = read_condition(alloc, text, condition_at)?;
+    let (condition, end) = read_condition(alloc, text, syntax, condition_at)?;
     Ok((condition, end))
 }
 
@@ -85,18 +102,19 @@ fn read_next_condition(
 fn read_conditions(
     alloc: Global,
     text: &[u8],
+    syntax: Syntax,
     at: usize,
 ) -> Result<(Vec<Condition>, usize), FileError>
     requires { at ≤ length text.now }
-    ensures { IsReadBy (Separated (IsKind Comma) IsCondition)
-        (λ v. map condition v.items) text.now at result }
+    ensures { let notation = notation_of syntax in IsReadIn notation
+        (Separated (IsKind Comma) (IsCondition notation)) (λ v. map condition v.items) text.now at result }
 {
     let mut conditions = Vec::new(alloc);
-    let (first, first_end) = read_condition(alloc, text, at)?;
+    let (first, first_end) = read_condition(alloc, text, syntax, at)?;
     conditions.push(first)?;
     let mut end = first_end;
     'conditions: while next_is(text, end, TokenKind::Comma) {
-        let (condition, condition_end) = read_next_condition(alloc, text, end)?;
+        let (condition, condition_end) = read_next_condition(alloc, text, syntax, end)?;
         conditions.push(condition)?;
         end = condition_end;
     }
@@ -107,13 +125,15 @@ fn read_conditions(
 fn read_qualified(
     alloc: Global,
     text: &[u8],
+    syntax: Syntax,
     at: usize,
 ) -> Result<(Vec<Condition>, usize), FileError>
     requires { at ≤ length text.now }
-    ensures { IsReadBy IsConditions (λ v. map condition v.items) text.now at result }
+    ensures { let notation = notation_of syntax in
+        IsReadIn notation (IsConditions notation) (λ v. map condition v.items) text.now at result }
 {
     let conditions_at = skip_word(text, at, b"where")?;
-    let (conditions, end_at) = read_conditions(alloc, text, conditions_at)?;
+    let (conditions, end_at) = read_conditions(alloc, text, syntax, conditions_at)?;
     let where_at = skip_word(text, end_at, b"end")?;
     let end = skip_word(text, where_at, b"where")?;
     Ok((conditions, end))
@@ -123,13 +143,15 @@ fn read_qualified(
 pub fn read_where(
     alloc: Global,
     text: &[u8],
+    syntax: Syntax,
     at: usize,
 ) -> Result<(Vec<Condition>, usize), FileError>
     requires { at ≤ length text.now }
-    ensures { IsReadBy IsWhere (λ v. map condition v.items) text.now at result }
+    ensures { let notation = notation_of syntax in
+        IsReadIn notation (IsWhere notation) (λ v. map condition v.items) text.now at result }
 {
     if next_is_word(text, at, b"where") {
-        let (conditions, end) = read_qualified(alloc, text, at)?;
+        let (conditions, end) = read_qualified(alloc, text, syntax, at)?;
         return Ok((conditions, end));
     }
     Ok((Vec::new(alloc), at))

@@ -16,6 +16,7 @@ use Rattle.def_file.specs.Pairs.{AreRelated}
 use Rattle.def_file.specs.Sides.{Equations, Application, Cells, IsSymbolApplied, alternatives_of, AnswersLimits}
 use Rattle.def_file.specs.Taking.{HasDeclaredRoot, TakesCondition}
 use Rattle.def_file.proofs.Limits.{answers_behind}
+use Rattle.def_file.specs.Notations.{notation_of}
 use Rattle.def_file.proofs.naming.limits.equation_fault.Goals as goal
 
 -- a symbol stands at the root exactly where one does as the pattern is read
@@ -38,19 +39,19 @@ module _ (root : Bool) (table : Table) (p : Tree (PatternCell Head)) (exact : Is
   is_none missing app = true≢false (sym (exact.1 ((root_read table p).1 app)) ∙ missing)
 
 pub returns-then-not-is_application : goal.returns-then-not-is_application
-returns-then-not-is_application c = λ text known table t.
+returns-then-not-is_application c = λ syntax text known table t.
     let left = read_pattern table c.args.taken.now.left in
     inr (omega arith, inl (left, t.left.means, is_none _ table c.args.taken.now.left c.is_application.ensures c.if-not-is_application.true, refl))
 
 pub returns-then-len-gt-LEFT_CELLS : goal.returns-then-len-gt-LEFT_CELLS
-returns-then-len-gt-LEFT_CELLS c = λ text known table t.
+returns-then-len-gt-LEFT_CELLS c = λ syntax text known table t.
     let left = read_pattern table c.args.taken.now.left in
     let app = is_application _ table c.args.taken.now.left c.is_application.ensures c.if-not-is_application.false in
     let long : 255 < size left = omega (arith, size_read table c.args.taken.now.left) in
     inr (omega arith, inr ((left, t.left.means, app), inl (left, t.left.means, long, refl)))
 
 pub returns-then-len-gt-RIGHT_CELLS : goal.returns-then-len-gt-RIGHT_CELLS
-returns-then-len-gt-RIGHT_CELLS c = λ text known table t.
+returns-then-len-gt-RIGHT_CELLS c = λ syntax text known table t.
     let left = read_pattern table c.args.taken.now.left in
     let right = read_pattern table c.args.taken.now.right in
     let app = is_application _ table c.args.taken.now.left c.is_application.ensures c.if-not-is_application.false in
@@ -59,7 +60,7 @@ returns-then-len-gt-RIGHT_CELLS c = λ text known table t.
     inr (omega arith, inr ((left, t.left.means, app), inr ((left, t.left.means, short), inl (right, t.right.means, long, refl))))
 
 pub returns : goal.returns
-returns c = λ text known table t.
+returns c = λ syntax text known table t.
     let written = c.args.written.now in
     let left = read_pattern table c.args.taken.now.left in
     let right = read_pattern table c.args.taken.now.right in
@@ -67,8 +68,8 @@ returns c = λ text known table t.
     let short : size left ≤ 255 = omega (arith, size_read table c.args.taken.now.left) in
     let fits : size right ≤ 65535 = omega (arith, size_read table c.args.taken.now.right) in
     let lt : c.args.before < 2048 = omega arith in
-    let related = subst (λ ts. AreRelated (λ (w : Condition) (u : TakenCondition). TakesCondition text known table w.variable w.restriction u) (map condition c.deref.result.now) ts) (sym c.deref-2.ensures.value)
-    (subst (λ cs. AreRelated (λ (w : Condition) (u : TakenCondition). TakesCondition text known table w.variable w.restriction u) (map condition cs) c.args.taken.now.conditions.items) (sym c.deref.ensures.value) t.conditions) in
-    let rest = subst (λ cs. AnswersLimits text known (map (Cells 255) (flat_map alternatives_of (map condition cs))) c.conditions_fault.result) c.deref.ensures.value (c.conditions_fault.ensures text known table related) in
-    answers_behind text known (Equations c.args.before written.left ∷ Application written.left ∷ Cells 255 written.left ∷ Cells 65535 written.right ∷ []) _ c.conditions_fault.result
+    let related = subst (λ ts. AreRelated (λ (w : Condition) (u : TakenCondition). TakesCondition (notation_of syntax) text known table w.variable w.restriction u) (map condition c.deref.result.now) ts) (sym c.deref-2.ensures.value)
+    (subst (λ cs. AreRelated (λ (w : Condition) (u : TakenCondition). TakesCondition (notation_of syntax) text known table w.variable w.restriction u) (map condition cs) c.args.taken.now.conditions.items) (sym c.deref.ensures.value) t.conditions) in
+    let rest = subst (λ cs. AnswersLimits (notation_of syntax) text known (map (Cells 255) (flat_map alternatives_of (map condition cs))) c.conditions_fault.result) c.deref.ensures.value (c.conditions_fault.ensures syntax text known table related) in
+    answers_behind (notation_of syntax) text known (Equations c.args.before written.left ∷ Application written.left ∷ Cells 255 written.left ∷ Cells 65535 written.right ∷ []) _ c.conditions_fault.result
     (lt, ((left, t.left.means, app), ((left, t.left.means, short), ((right, t.right.means, fits), tt)))) rest

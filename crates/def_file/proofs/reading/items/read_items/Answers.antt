@@ -8,44 +8,46 @@ use Rattle.def_file.specs.Reading.{IsReadAs}
 use Rattle.def_file.proofs.Readings.{read_refused}
 use Rattle.def_file.proofs.Rules.{item_part}
 use Rattle.def_file.proofs.Lists.{map-one_more, ClosedBegun, closed_begun, closed_item_refused, closed_last, closed_last_refused, separator_refused, closed_on, closed_done, closed_done_refused}
+use Rattle.def_file.specs.Notations.{notation_of}
+use Rattle.def_file.proofs.Lawful.{lawful_of}
 use Rattle.def_file.proofs.reading.items.read_items.Goals as goal
 
 pub items-init : goal.items-init
 items-init c =
     let none : c.new-items.result.items ≡ [] = search rules in
-    subst (λ vs. ClosedBegun Semicolon Dot IsItem c.args.text.now c.args.at (map equation_item vs) c.args.at) (sym none) (closed_begun Semicolon Dot IsItem item_part refl refl c.args.text.now c.args.at c.requires)
+    subst (λ vs. ClosedBegun (notation_of c.args.syntax).Misplaced Semicolon Dot (IsItem (notation_of c.args.syntax)) c.args.text.now c.args.at (map equation_item vs) c.args.at) (sym none) (closed_begun (lawful_of c.args.syntax).telling Semicolon Dot (IsItem (notation_of c.args.syntax)) (item_part (lawful_of c.args.syntax)) refl refl refl refl c.args.text.now c.args.at c.requires)
 
 pub returns-in_err-item : goal.returns-in_err-item
 returns-in_err-item c =
     let same : c.from_residual.result ≡ Err c.in_err-item.field-0.0 = search rules in
-    read_refused (Closed (IsKind Semicolon) (IsKind Dot) IsItem) (λ v. map equation_item v.items) c.args.text.now c.args.at _ c.in_err-item.field-0.0 same (closed_item_refused Semicolon Dot IsItem item_part refl refl c.args.text.now c.args.at (map equation_item c.items.items.items) c.items.at c.items.invariant (c.next_is.ensures.not c.items-test.true) c.in_err-item.field-0.0 c.in_err-item.ensures)
+    read_refused (notation_of c.args.syntax).Misplaced (Closed (IsKind Semicolon) (IsKind Dot) (IsItem (notation_of c.args.syntax))) (λ v. map equation_item v.items) c.args.text.now c.args.at _ c.in_err-item.field-0.0 same (closed_item_refused (lawful_of c.args.syntax).telling Semicolon Dot (IsItem (notation_of c.args.syntax)) (item_part (lawful_of c.args.syntax)) refl refl refl refl c.args.text.now c.args.at (map equation_item c.items.items.items) c.items.at c.items.invariant (c.next_is.ensures.not c.items-test.true) c.in_err-item.field-0.0 c.in_err-item.ensures)
 
 pub returns-in_err-end : goal.returns-in_err-end
 returns-in_err-end c =
     let same : c.from_residual-in_err-end.result ≡ Err c.in_err-end.field-0.0 = search rules in
-    read_refused (Closed (IsKind Semicolon) (IsKind Dot) IsItem) (λ v. map equation_item v.items) c.args.text.now c.args.at _ c.in_err-end.field-0.0 same (closed_last_refused Semicolon Dot IsItem item_part refl refl c.args.text.now c.args.at (map equation_item c.items.items.items) c.items.at c.items.invariant (c.next_is.ensures.not c.items-test.true) (equation_item c.in_ok-item.item) c.in_ok-item.item_end c.in_ok-item.ensures (c.next_is-in-items.ensures.not c.if-not-next_is.true) c.in_err-end.field-0.0 c.in_err-end.ensures)
+    read_refused (notation_of c.args.syntax).Misplaced (Closed (IsKind Semicolon) (IsKind Dot) (IsItem (notation_of c.args.syntax))) (λ v. map equation_item v.items) c.args.text.now c.args.at _ c.in_err-end.field-0.0 same (closed_last_refused (lawful_of c.args.syntax).telling Semicolon Dot (IsItem (notation_of c.args.syntax)) (item_part (lawful_of c.args.syntax)) refl refl refl refl c.args.text.now c.args.at (map equation_item c.items.items.items) c.items.at c.items.invariant (c.next_is.ensures.not c.items-test.true) (equation_item c.in_ok-item.item) c.in_ok-item.item_end c.in_ok-item.ensures (c.next_is-in-items.ensures.not c.if-not-next_is.true) c.in_err-end.field-0.0 c.in_err-end.ensures)
 
 pub returns-then-not-next_is : goal.returns-then-not-next_is
-returns-then-not-next_is c = subst (λ vs. IsReadAs (SomeTree (Closed (IsKind Semicolon) (IsKind Dot) IsItem)) (Closed (IsKind Semicolon) (IsKind Dot) IsItem vs) c.args.text.now c.args.at c.in_ok-end.end) (sym (map-one_more equation_item c.items.items.items c.in_ok-item.item c.in_ok-push.ensures.items)) (closed_last Semicolon Dot IsItem item_part refl refl c.args.text.now c.args.at (map equation_item c.items.items.items) c.items.at c.items.invariant (c.next_is.ensures.not c.items-test.true) (equation_item c.in_ok-item.item) c.in_ok-item.item_end c.in_ok-item.ensures c.in_ok-end.end (c.next_is-in-items.ensures.not c.if-not-next_is.true) c.in_ok-end.ensures)
+returns-then-not-next_is c = subst (λ vs. IsReadAs (SomeTree (Closed (IsKind Semicolon) (IsKind Dot) (IsItem (notation_of c.args.syntax)))) (Closed (IsKind Semicolon) (IsKind Dot) (IsItem (notation_of c.args.syntax)) vs) c.args.text.now c.args.at c.in_ok-end.end) (sym (map-one_more equation_item c.items.items.items c.in_ok-item.item c.in_ok-push.ensures.items)) (closed_last (lawful_of c.args.syntax).telling Semicolon Dot (IsItem (notation_of c.args.syntax)) (item_part (lawful_of c.args.syntax)) refl refl refl refl c.args.text.now c.args.at (map equation_item c.items.items.items) c.items.at c.items.invariant (c.next_is.ensures.not c.items-test.true) (equation_item c.in_ok-item.item) c.in_ok-item.item_end c.in_ok-item.ensures c.in_ok-end.end (c.next_is-in-items.ensures.not c.if-not-next_is.true) c.in_ok-end.ensures)
 
 pub returns-in_err-at : goal.returns-in_err-at
 returns-in_err-at c =
     let same : c.from_residual-in_err-at.result ≡ Err c.in_err-at.field-0.0 = search rules in
-    read_refused (Closed (IsKind Semicolon) (IsKind Dot) IsItem) (λ v. map equation_item v.items) c.args.text.now c.args.at _ c.in_err-at.field-0.0 same (separator_refused Semicolon Dot IsItem item_part refl refl c.args.text.now c.args.at c.in_ok-item.item_end (c.next_is-in-items.ensures.yes c.if-not-next_is.false) c.in_err-at.field-0.0 c.in_err-at.ensures)
+    read_refused (notation_of c.args.syntax).Misplaced (Closed (IsKind Semicolon) (IsKind Dot) (IsItem (notation_of c.args.syntax))) (λ v. map equation_item v.items) c.args.text.now c.args.at _ c.in_err-at.field-0.0 same (separator_refused (lawful_of c.args.syntax).telling Semicolon Dot (IsItem (notation_of c.args.syntax)) (item_part (lawful_of c.args.syntax)) refl refl refl refl c.args.text.now c.args.at c.in_ok-item.item_end (c.next_is-in-items.ensures.yes c.if-not-next_is.false) c.in_err-at.field-0.0 c.in_err-at.ensures)
 
 pub items-preserved : goal.items-preserved
-items-preserved c = subst (λ vs. ClosedBegun Semicolon Dot IsItem c.args.text.now c.args.at vs c.in_ok-at.at) (sym (map-one_more equation_item c.items.items.items c.in_ok-item.item c.in_ok-push.ensures.items)) (closed_on Semicolon Dot IsItem item_part refl refl c.args.text.now c.args.at (map equation_item c.items.items.items) c.items.at c.items.invariant (c.next_is.ensures.not c.items-test.true) (equation_item c.in_ok-item.item) c.in_ok-item.item_end c.in_ok-item.ensures c.in_ok-at.at (c.next_is-in-items.ensures.yes c.if-not-next_is.false) c.in_ok-at.ensures)
+items-preserved c = subst (λ vs. ClosedBegun (notation_of c.args.syntax).Misplaced Semicolon Dot (IsItem (notation_of c.args.syntax)) c.args.text.now c.args.at vs c.in_ok-at.at) (sym (map-one_more equation_item c.items.items.items c.in_ok-item.item c.in_ok-push.ensures.items)) (closed_on (lawful_of c.args.syntax).telling Semicolon Dot (IsItem (notation_of c.args.syntax)) (item_part (lawful_of c.args.syntax)) refl refl refl refl c.args.text.now c.args.at (map equation_item c.items.items.items) c.items.at c.items.invariant (c.next_is.ensures.not c.items-test.true) (equation_item c.in_ok-item.item) c.in_ok-item.item_end c.in_ok-item.ensures c.in_ok-at.at (c.next_is-in-items.ensures.yes c.if-not-next_is.false) c.in_ok-at.ensures)
 
 pub items-smaller : goal.items-smaller
 items-smaller c =
-    let item = answer_further item_part refl c.args.text.now c.items.at c.in_ok-item.item_end c.items.invariant.within c.in_ok-item.ensures.answer in
+    let item = answer_further (item_part (lawful_of c.args.syntax)) refl c.args.text.now c.items.at c.in_ok-item.item_end c.items.invariant.within c.in_ok-item.ensures.answer in
     let sign = answer_further (kind_part Semicolon) refl c.args.text.now c.in_ok-item.item_end c.in_ok-at.at c.in_ok-item.ensures.within c.in_ok-at.ensures.answer in
     omega (arith, item, sign, c.in_ok-at.ensures.within)
 
 pub returns-in_err-end-2 : goal.returns-in_err-end-2
 returns-in_err-end-2 c =
     let same : c.from_residual-in_err-end-2.result ≡ Err c.in_err-end-2.field-0.0 = search rules in
-    read_refused (Closed (IsKind Semicolon) (IsKind Dot) IsItem) (λ v. map equation_item v.items) c.args.text.now c.args.at _ c.in_err-end-2.field-0.0 same (closed_done_refused Semicolon Dot IsItem item_part refl refl c.args.text.now c.args.at (map equation_item c.items.items.items) c.items.at c.items.invariant (c.next_is.ensures.yes c.items-test.false) c.in_err-end-2.field-0.0 c.in_err-end-2.ensures)
+    read_refused (notation_of c.args.syntax).Misplaced (Closed (IsKind Semicolon) (IsKind Dot) (IsItem (notation_of c.args.syntax))) (λ v. map equation_item v.items) c.args.text.now c.args.at _ c.in_err-end-2.field-0.0 same (closed_done_refused (lawful_of c.args.syntax).telling Semicolon Dot (IsItem (notation_of c.args.syntax)) (item_part (lawful_of c.args.syntax)) refl refl refl refl c.args.text.now c.args.at (map equation_item c.items.items.items) c.items.at c.items.invariant (c.next_is.ensures.yes c.items-test.false) c.in_err-end-2.field-0.0 c.in_err-end-2.ensures)
 
 pub returns : goal.returns
-returns c = closed_done Semicolon Dot IsItem item_part refl refl c.args.text.now c.args.at (map equation_item c.items.items.items) c.items.at c.items.invariant c.in_ok-end-2.end (c.next_is.ensures.yes c.items-test.false) c.in_ok-end-2.ensures
+returns c = closed_done (lawful_of c.args.syntax).telling Semicolon Dot (IsItem (notation_of c.args.syntax)) (item_part (lawful_of c.args.syntax)) refl refl refl refl c.args.text.now c.args.at (map equation_item c.items.items.items) c.items.at c.items.invariant c.in_ok-end-2.end (c.next_is.ensures.yes c.items-test.false) c.in_ok-end-2.ensures

@@ -6,17 +6,18 @@ use Rattle.term_lex.proofs.ListAnswers.{led_to, led_from}
 use Rattle.def_file.specs.Grammar.{IsToken}
 use Rattle.def_file.proofs.Readings.{read_refused, same_read, same_refused, then_read, first_refused, later_refused}
 use Rattle.def_file.proofs.Rules.{token_part}
+use Rattle.term_lex.proofs.Telling.{Plain, plain}
 use Rattle.def_file.proofs.reading.names.read_next_name.Goals as goal
 
 pub returns-in_err-name_at : goal.returns-in_err-name_at
 returns-in_err-name_at c =
     let same : c.from_residual.result ≡ Err c.in_err-name_at.field-0.0 = search rules in
-    read_refused (Led (IsKind Comma) (IsToken Name)) (λ name. name) c.args.text.now c.args.at _ c.in_err-name_at.field-0.0 same (same_refused led_to led_from c.args.text.now c.args.at c.in_err-name_at.field-0.0 (first_refused (kind_part Comma) (token_part Name) refl c.args.text.now _ c.in_err-name_at.field-0.0 c.in_err-name_at.ensures))
+    read_refused Plain (Led (IsKind Comma) (IsToken Name)) (λ name. name) c.args.text.now c.args.at _ c.in_err-name_at.field-0.0 same (same_refused plain led_to led_from c.args.text.now c.args.at c.in_err-name_at.field-0.0 (first_refused plain (kind_part Comma) (token_part Name) refl refl c.args.text.now _ c.in_err-name_at.field-0.0 c.in_err-name_at.ensures))
 
 pub returns-in_err-name : goal.returns-in_err-name
 returns-in_err-name c =
     let same : c.from_residual-in_err-name.result ≡ Err c.in_err-name.field-0.0 = search rules in
-    read_refused (Led (IsKind Comma) (IsToken Name)) (λ name. name) c.args.text.now c.args.at _ c.in_err-name.field-0.0 same (same_refused led_to led_from c.args.text.now c.args.at c.in_err-name.field-0.0 (later_refused (kind_part Comma) (token_part Name) refl c.args.text.now _ c.in_ok-name_at.ensures c.in_err-name.field-0.0 c.in_err-name.ensures))
+    read_refused Plain (Led (IsKind Comma) (IsToken Name)) (λ name. name) c.args.text.now c.args.at _ c.in_err-name.field-0.0 same (same_refused plain led_to led_from c.args.text.now c.args.at c.in_err-name.field-0.0 (later_refused plain (kind_part Comma) (token_part Name) refl refl c.args.text.now _ c.in_ok-name_at.ensures c.in_err-name.field-0.0 c.in_err-name.ensures))
 
 pub returns : goal.returns
 returns c = same_read led_to led_from c.args.text.now c.args.at (λ xs s. s) (then_read (kind_part Comma) (token_part Name) refl c.args.text.now _ c.in_ok-name_at.ensures c.in_ok-name.ensures)

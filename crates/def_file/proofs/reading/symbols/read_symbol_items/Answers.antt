@@ -8,33 +8,34 @@ use Rattle.def_file.specs.Reading.{IsReadAs}
 use Rattle.def_file.proofs.Readings.{read_refused}
 use Rattle.def_file.proofs.Rules.{symbol_item_part}
 use Rattle.def_file.proofs.Lists.{map-one_more, ClosedBegun, closed_begun, closed_item_refused, closed_last, closed_last_refused, separator_refused, closed_on, closed_done, closed_done_refused}
+use Rattle.term_lex.proofs.Telling.{Plain, plain}
 use Rattle.def_file.proofs.reading.symbols.read_symbol_items.Goals as goal
 
 pub items-init : goal.items-init
 items-init c =
     let none : c.new-items.result.items ≡ [] = search rules in
-    subst (λ vs. ClosedBegun Semicolon Dot IsSymbolItem c.args.text.now c.args.at (map symbol_item vs) c.args.at) (sym none) (closed_begun Semicolon Dot IsSymbolItem symbol_item_part refl refl c.args.text.now c.args.at c.requires)
+    subst (λ vs. ClosedBegun Plain Semicolon Dot IsSymbolItem c.args.text.now c.args.at (map symbol_item vs) c.args.at) (sym none) (closed_begun plain Semicolon Dot IsSymbolItem symbol_item_part refl refl refl refl c.args.text.now c.args.at c.requires)
 
 pub returns-in_err-item : goal.returns-in_err-item
 returns-in_err-item c =
     let same : c.from_residual.result ≡ Err c.in_err-item.field-0.0 = search rules in
-    read_refused (Closed (IsKind Semicolon) (IsKind Dot) IsSymbolItem) (λ v. map symbol_item v.items) c.args.text.now c.args.at _ c.in_err-item.field-0.0 same (closed_item_refused Semicolon Dot IsSymbolItem symbol_item_part refl refl c.args.text.now c.args.at (map symbol_item c.items.items.items) c.items.at c.items.invariant (c.next_is.ensures.not c.items-test.true) c.in_err-item.field-0.0 c.in_err-item.ensures)
+    read_refused Plain (Closed (IsKind Semicolon) (IsKind Dot) IsSymbolItem) (λ v. map symbol_item v.items) c.args.text.now c.args.at _ c.in_err-item.field-0.0 same (closed_item_refused plain Semicolon Dot IsSymbolItem symbol_item_part refl refl refl refl c.args.text.now c.args.at (map symbol_item c.items.items.items) c.items.at c.items.invariant (c.next_is.ensures.not c.items-test.true) c.in_err-item.field-0.0 c.in_err-item.ensures)
 
 pub returns-in_err-end : goal.returns-in_err-end
 returns-in_err-end c =
     let same : c.from_residual-in_err-end.result ≡ Err c.in_err-end.field-0.0 = search rules in
-    read_refused (Closed (IsKind Semicolon) (IsKind Dot) IsSymbolItem) (λ v. map symbol_item v.items) c.args.text.now c.args.at _ c.in_err-end.field-0.0 same (closed_last_refused Semicolon Dot IsSymbolItem symbol_item_part refl refl c.args.text.now c.args.at (map symbol_item c.items.items.items) c.items.at c.items.invariant (c.next_is.ensures.not c.items-test.true) (symbol_item c.in_ok-item.item) c.in_ok-item.item_end c.in_ok-item.ensures (c.next_is-in-items.ensures.not c.if-not-next_is.true) c.in_err-end.field-0.0 c.in_err-end.ensures)
+    read_refused Plain (Closed (IsKind Semicolon) (IsKind Dot) IsSymbolItem) (λ v. map symbol_item v.items) c.args.text.now c.args.at _ c.in_err-end.field-0.0 same (closed_last_refused plain Semicolon Dot IsSymbolItem symbol_item_part refl refl refl refl c.args.text.now c.args.at (map symbol_item c.items.items.items) c.items.at c.items.invariant (c.next_is.ensures.not c.items-test.true) (symbol_item c.in_ok-item.item) c.in_ok-item.item_end c.in_ok-item.ensures (c.next_is-in-items.ensures.not c.if-not-next_is.true) c.in_err-end.field-0.0 c.in_err-end.ensures)
 
 pub returns-then-not-next_is : goal.returns-then-not-next_is
-returns-then-not-next_is c = subst (λ vs. IsReadAs (SomeTree (Closed (IsKind Semicolon) (IsKind Dot) IsSymbolItem)) (Closed (IsKind Semicolon) (IsKind Dot) IsSymbolItem vs) c.args.text.now c.args.at c.in_ok-end.end) (sym (map-one_more symbol_item c.items.items.items c.in_ok-item.item c.in_ok-push.ensures.items)) (closed_last Semicolon Dot IsSymbolItem symbol_item_part refl refl c.args.text.now c.args.at (map symbol_item c.items.items.items) c.items.at c.items.invariant (c.next_is.ensures.not c.items-test.true) (symbol_item c.in_ok-item.item) c.in_ok-item.item_end c.in_ok-item.ensures c.in_ok-end.end (c.next_is-in-items.ensures.not c.if-not-next_is.true) c.in_ok-end.ensures)
+returns-then-not-next_is c = subst (λ vs. IsReadAs (SomeTree (Closed (IsKind Semicolon) (IsKind Dot) IsSymbolItem)) (Closed (IsKind Semicolon) (IsKind Dot) IsSymbolItem vs) c.args.text.now c.args.at c.in_ok-end.end) (sym (map-one_more symbol_item c.items.items.items c.in_ok-item.item c.in_ok-push.ensures.items)) (closed_last plain Semicolon Dot IsSymbolItem symbol_item_part refl refl refl refl c.args.text.now c.args.at (map symbol_item c.items.items.items) c.items.at c.items.invariant (c.next_is.ensures.not c.items-test.true) (symbol_item c.in_ok-item.item) c.in_ok-item.item_end c.in_ok-item.ensures c.in_ok-end.end (c.next_is-in-items.ensures.not c.if-not-next_is.true) c.in_ok-end.ensures)
 
 pub returns-in_err-at : goal.returns-in_err-at
 returns-in_err-at c =
     let same : c.from_residual-in_err-at.result ≡ Err c.in_err-at.field-0.0 = search rules in
-    read_refused (Closed (IsKind Semicolon) (IsKind Dot) IsSymbolItem) (λ v. map symbol_item v.items) c.args.text.now c.args.at _ c.in_err-at.field-0.0 same (separator_refused Semicolon Dot IsSymbolItem symbol_item_part refl refl c.args.text.now c.args.at c.in_ok-item.item_end (c.next_is-in-items.ensures.yes c.if-not-next_is.false) c.in_err-at.field-0.0 c.in_err-at.ensures)
+    read_refused Plain (Closed (IsKind Semicolon) (IsKind Dot) IsSymbolItem) (λ v. map symbol_item v.items) c.args.text.now c.args.at _ c.in_err-at.field-0.0 same (separator_refused plain Semicolon Dot IsSymbolItem symbol_item_part refl refl refl refl c.args.text.now c.args.at c.in_ok-item.item_end (c.next_is-in-items.ensures.yes c.if-not-next_is.false) c.in_err-at.field-0.0 c.in_err-at.ensures)
 
 pub items-preserved : goal.items-preserved
-items-preserved c = subst (λ vs. ClosedBegun Semicolon Dot IsSymbolItem c.args.text.now c.args.at vs c.in_ok-at.at) (sym (map-one_more symbol_item c.items.items.items c.in_ok-item.item c.in_ok-push.ensures.items)) (closed_on Semicolon Dot IsSymbolItem symbol_item_part refl refl c.args.text.now c.args.at (map symbol_item c.items.items.items) c.items.at c.items.invariant (c.next_is.ensures.not c.items-test.true) (symbol_item c.in_ok-item.item) c.in_ok-item.item_end c.in_ok-item.ensures c.in_ok-at.at (c.next_is-in-items.ensures.yes c.if-not-next_is.false) c.in_ok-at.ensures)
+items-preserved c = subst (λ vs. ClosedBegun Plain Semicolon Dot IsSymbolItem c.args.text.now c.args.at vs c.in_ok-at.at) (sym (map-one_more symbol_item c.items.items.items c.in_ok-item.item c.in_ok-push.ensures.items)) (closed_on plain Semicolon Dot IsSymbolItem symbol_item_part refl refl refl refl c.args.text.now c.args.at (map symbol_item c.items.items.items) c.items.at c.items.invariant (c.next_is.ensures.not c.items-test.true) (symbol_item c.in_ok-item.item) c.in_ok-item.item_end c.in_ok-item.ensures c.in_ok-at.at (c.next_is-in-items.ensures.yes c.if-not-next_is.false) c.in_ok-at.ensures)
 
 pub items-smaller : goal.items-smaller
 items-smaller c =
@@ -45,7 +46,7 @@ items-smaller c =
 pub returns-in_err-end-2 : goal.returns-in_err-end-2
 returns-in_err-end-2 c =
     let same : c.from_residual-in_err-end-2.result ≡ Err c.in_err-end-2.field-0.0 = search rules in
-    read_refused (Closed (IsKind Semicolon) (IsKind Dot) IsSymbolItem) (λ v. map symbol_item v.items) c.args.text.now c.args.at _ c.in_err-end-2.field-0.0 same (closed_done_refused Semicolon Dot IsSymbolItem symbol_item_part refl refl c.args.text.now c.args.at (map symbol_item c.items.items.items) c.items.at c.items.invariant (c.next_is.ensures.yes c.items-test.false) c.in_err-end-2.field-0.0 c.in_err-end-2.ensures)
+    read_refused Plain (Closed (IsKind Semicolon) (IsKind Dot) IsSymbolItem) (λ v. map symbol_item v.items) c.args.text.now c.args.at _ c.in_err-end-2.field-0.0 same (closed_done_refused plain Semicolon Dot IsSymbolItem symbol_item_part refl refl refl refl c.args.text.now c.args.at (map symbol_item c.items.items.items) c.items.at c.items.invariant (c.next_is.ensures.yes c.items-test.false) c.in_err-end-2.field-0.0 c.in_err-end-2.ensures)
 
 pub returns : goal.returns
-returns c = closed_done Semicolon Dot IsSymbolItem symbol_item_part refl refl c.args.text.now c.args.at (map symbol_item c.items.items.items) c.items.at c.items.invariant c.in_ok-end-2.end (c.next_is.ensures.yes c.items-test.false) c.in_ok-end-2.ensures
+returns c = closed_done plain Semicolon Dot IsSymbolItem symbol_item_part refl refl refl refl c.args.text.now c.args.at (map symbol_item c.items.items.items) c.items.at c.items.invariant c.in_ok-end-2.end (c.next_is.ensures.yes c.items-test.false) c.in_ok-end-2.ensures

@@ -3,10 +3,11 @@ use Rattle.term_lex.specs.declared.token.TokenKind.TheVariants.{Semicolon, Dot}
 use Rattle.def_file.specs.Grammar.{IsSymbolItem}
 use Rattle.def_file.specs.Views.{symbol_item}
 use Rattle.def_file.proofs.Lists.{ClosedBegun}
+use Rattle.term_lex.proofs.Telling.{Plain}
 use Rattle.def_file.proofs.reading.symbols.read_symbol_items.Given as goal
 
 abbrev pub invariant-items : goal.invariant-items
-invariant-items l = ClosedBegun Semicolon Dot IsSymbolItem l.text l.initial.at (map symbol_item l.items.items) l.at
+invariant-items l = ClosedBegun Plain Semicolon Dot IsSymbolItem l.text l.initial.at (map symbol_item l.items.items) l.at
 
 abbrev pub decreases-items : goal.decreases-items
 decreases-items l = length l.text - l.at

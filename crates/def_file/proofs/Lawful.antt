@@ -1,0 +1,9 @@
+-- Each notation is lawful.
+use Rattle.term_lex.specs.declared.syntax.Syntax.{Syntax}
+use Rattle.term_lex.specs.declared.syntax.Syntax.TheVariants.{Standmath}
+use Rattle.written_terms.proofs.Notations.{IsLawful}
+use Rattle.standmath.proofs.OneReading.{lawful}
+use Rattle.def_file.specs.Notations.{notation_of}
+
+pub lawful_of : (syntax : Syntax) → IsLawful (notation_of syntax)
+lawful_of Standmath = lawful
