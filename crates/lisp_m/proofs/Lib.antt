@@ -6,3 +6,5 @@ pub mod Follows
 pub mod OneReading
 pub mod Counting
 pub mod Reached
+pub mod Lists
+pub mod Prints
