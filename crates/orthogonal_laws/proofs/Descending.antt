@@ -19,7 +19,7 @@ use Rattle.orthogonal_laws.proofs.Reaching.{reaches-bound}
 use Rattle.orthogonal_laws.proofs.Failing.{mismatch-fits}
 use Rattle.orthogonal_laws.proofs.Failures.{last_reaches}
 use Rattle.orthogonal_laws.proofs.Followed.{IsFollowed, followed_step, followed_end}
-use Rattle.orthogonal_laws.proofs.Arguments.{place_of}
+use Rattle.eq_base.proofs.Arguments.{place_of}
 
 -- where all left sides fail, there is no redex
 pub failed_no_redex : (values : Values) (es : List Equation) (t : Tree Head) (n : ℕ) → IsLastFailure es t n → IsRedex (system_of values es) t → ⊥

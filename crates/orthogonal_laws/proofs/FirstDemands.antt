@@ -18,8 +18,7 @@ use Rattle.orthogonal_laws.proofs.Stepping.{at-stands, stands-at}
 use Rattle.orthogonal_laws.proofs.NextRedexes.{no_demand-from, demand-from, next-one}
 use Rattle.orthogonal_laws.proofs.NextLaws.{next_one, next_not_normal}
 use Rattle.orthogonal_laws.proofs.Nexts.{IsNormal-from_none}
-use Rattle.orthogonal_laws.proofs.Numbers.{number_within_in, subtree-append, number-append, position-number}
-use Rattle.orthogonal_laws.proofs.PositionNumbers.{nth_subtree-number}
+use Rattle.eq_base.proofs.Numbers.{number_within_in, subtree-append, number-append, position-number, nth_subtree-number}
 
 module _ {H : Type 0} (rules : List (Compiled H)) where
   none_in : (ts : Forest H) → ((j : ℕ) (r : Position) (g : H) (us : Forest H) → At ts (j ∷ r) g us → NoDemandedRedex rules g us) → NoNext rules ts

@@ -18,7 +18,7 @@ use Rattle.orthogonal_laws.proofs.Stepping.{stands-at, no_redex-from}
 use Rattle.orthogonal_laws.proofs.NextRedexes.{no_demand-to, demand-to}
 use Rattle.orthogonal_laws.proofs.Reaching.{Reaches, reaches_none, reaches_within, reaches_after, reaches_over, join_left, join_right}
 use Rattle.orthogonal_laws.proofs.JoinedWalks.{apart-beside, quiet_join, by_second, by_first, leads_join, descend}
-use Rattle.orthogonal_laws.proofs.Numbers.{subtree-append, number-append, number_first}
+use Rattle.eq_base.proofs.Numbers.{subtree-append, number-append, number_first}
 
 module _ {H : Type 0} (system : System H) (w : IsWellFormedSystem system) (o : IsOrthogonal system) where
   abbrev pub LeadsTo : Matcher H → Forest H → Position → Forest H → Type 0

@@ -54,11 +54,9 @@ pub mod Reaching
 pub mod JoinedWalks
 pub mod PlainRuns
 pub mod Mismatches
-pub mod PositionNumbers
 pub mod Numbers
 pub mod Followed
 mod Failing
-mod Arguments
 mod Failures
 mod Descending
 mod Resting

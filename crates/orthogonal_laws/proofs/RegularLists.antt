@@ -29,7 +29,7 @@ use Rattle.orthogonal_laws.proofs.Members.{contains-in, in-contains, map-in, in-
 use Rattle.orthogonal_laws.specs.Operations.{ReadConstants}
 use Rattle.orthogonal_laws.proofs.Applications.{same_value}
 use Rattle.orthogonal_laws.proofs.SameTerms.{same_head, same_head_decides, not_different}
-use Rattle.orthogonal_laws.proofs.PositionNumbers.{number_below, number_above, nth_subtree-number}
+use Rattle.eq_base.proofs.Numbers.{has_node, number_below, number_above, nth_subtree-number}
 use Rattle.orthogonal_laws.proofs.Compared.{clash_first, same_tests, mismatch_first, compared, part_is, pattern_of_arities}
 use Rattle.orthogonal_laws.proofs.Singles.{linear_of, bound_of}
 use Rattle.orthogonal_laws.proofs.MergedRights.{same_values}
@@ -150,12 +150,9 @@ module _ (value_of : Op → Tree Head → Option (Tree Head)) (es : List Equatio
           }))))),
         )
         | mismatch_first m ↦ absurd (no_mismatch i e j d listed listed' 0 (λ z. less)
-            (record { there = first_there e.left; tested = subst (λ p. IsTested (head_of p)) (sym (nth_subtree-zero e.left)) (left_tested i e listed) })
+            (record { there = has_node e.left; tested = subst (λ p. IsTested (head_of p)) (sym (nth_subtree-zero e.left)) (left_tested i e listed) })
             (subst (λ p. HasFirstMismatch in_symbol_class p d.left) (sym (nth_subtree-zero e.left)) m))
       ]
-    where
-      first_there : (p : Tree (PatternCell Head)) → 0 < size p
-      first_there (node c ps) = omega arith
 
   parts : (i : ℕ) (e : Equation) (j : ℕ) (d : Equation) → slice_get es i ≡ Some e → slice_get es j ≡ Some d → (q : Position) → q ≢ [] → (tested : IsTestedAt e.left q) → ClashFirst in_symbol_class tested.part d.left
   parts i e j d listed listed' q below tested =

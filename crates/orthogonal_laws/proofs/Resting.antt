@@ -25,7 +25,7 @@ use Rattle.orthogonal_laws.proofs.Reaching.{Reaches, reaches_none, reaches-bound
 use Rattle.orthogonal_laws.proofs.JoinedWalks.{both_quiet, descend}
 use Rattle.orthogonal_laws.proofs.Failures.{last_reaches}
 use Rattle.orthogonal_laws.proofs.Followed.{IsLater, IsQuiet, own, later_reaches}
-use Rattle.orthogonal_laws.proofs.Arguments.{place_of}
+use Rattle.eq_base.proofs.Arguments.{place_of}
 use Rattle.orthogonal_laws.proofs.Descending.{size_args, argument_in, later_of}
 
 module _ (values : Values) (es : List Equation) (w : IsWellFormedSystem (system_of values es)) (o : IsOrthogonal (system_of values es)) where

@@ -14,7 +14,7 @@ use Rattle.eq_base.proofs.Positions.{subtree_at-nth_position}
 use Rattle.eq_base.proofs.Lists.{all_both}
 use Rattle.regularity.specs.Occurrences.{variable_of, OccursAt, Repeats, IsUnbound}
 use Rattle.regularity.proofs.Faces.{number_before}
-use Rattle.orthogonal_laws.proofs.PositionNumbers.{number_below, nth_subtree-number}
+use Rattle.eq_base.proofs.Numbers.{number_below, nth_subtree-number}
 use Rattle.orthogonal_laws.proofs.Members.{In, in_first, in_next, in_left, in_right, in-contains}
 
 all_of : {A : Type 0} (P : A → Type 0) (xs : List A) → ((x : A) → In xs x → P x) → AllByRecursion P xs

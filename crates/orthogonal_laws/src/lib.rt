@@ -16,8 +16,4 @@ pub use past::first_past;
 pub use run::{PlainEnd, plain_run};
 
 #[cfg(test)]
-mod samples;
-#[cfg(test)]
-mod slow;
-#[cfg(test)]
 mod tests;

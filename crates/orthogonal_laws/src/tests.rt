@@ -1,336 +1,281 @@
-// Plain runs, and next redexes by their definition.
-use crate::next::Next;
-use crate::run::PlainEnd;
-use crate::samples::{add, admitted, head, names, next_of, past_of, run_of, term};
-use crate::slow::next_by_definition;
+// Each public call on its happy path, and how runs of a few terms end.
+ghost use Rattle.std.specs.Prelude.{◌≡◌, ◌+◌, ◌≤◌, IsTrue, length};
+ghost use Rattle.eq_base.specs.Cells.{kind_of, CellTakesArguments};
+ghost use Rattle.symbol_table.specs.Table.{IsLive};
+ghost use Rattle.symbol_table.specs.Reading.{IsLiveHead, IsLiveTerm, IsLiveCell, IsLivePattern};
+ghost use Rattle.symbol_table.specs.Reading.{IsLiveEquation, AreLive};
+ghost use Rattle.orthogonal_laws.specs.Operations.{AreTruthsKnown};
+
+use crate::{Next, PlainEnd, first_past, plain_next, plain_run};
 use builtin::schema_left;
 use eq_base::{
-    Cell, Equation, Flat, FlatMaker, Head, NoMemory, Op, Origin, Right, Rules, same_tree,
+    Cell, Equation, Flat, FlatMaker, Head, NoMemory, Op, Origin, Pattern, PatternMaker, Right,
+    Rules, same_tree,
 };
+use regularity::are_well_formed;
 use sequentiality::Regular;
 use std::alloc::Global;
 use std::test::Fail;
-use symbol_table::Symbols;
+use symbol_table::{SymbolError, Symbols};
 
-const Z: u8 = 2;
+// The number behind those of the symbols.
+const END: u8 = 24;
 
-const LOOP: u8 = 3;
-
-const A: u8 = 4;
-
-const B: u8 = 5;
-
-const S: u8 = 8;
-
-const G: u8 = 9;
-
-const H: u8 = 10;
-
-const PLUS: u8 = 16;
-
-const F: u8 = 17;
-
-const YES: u8 = 1;
-
-const LENGTH: u32 = 9;
-
-const ADD: u32 = 16;
-
-const DIVIDE: u32 = 17;
-
-const CONCAT: u32 = 18;
-
-const EQU: u32 = 19;
-
-const TRUTH: Cell = Cell::Class(2, 2);
-
-const X: Cell = Cell::Var(0);
-
-const Y: Cell = Cell::Var(1);
-
-// plus(z, x) = x; plus(s(x), y) = s(plus(x, y)); loop = loop; f(x, a) = b; g(x) = a.
-fn sums(alloc: Global) -> Result<Rules, NoMemory> {
-    let mut rules = Rules::new(alloc);
-    add(alloc, &mut rules, &[head(PLUS), head(Z), X], &[X])?;
-    add(
-        alloc,
-        &mut rules,
-        &[head(PLUS), head(S), X, Y],
-        &[head(S), head(PLUS), X, Y],
-    )?;
-    add(alloc, &mut rules, &[head(LOOP)], &[head(LOOP)])?;
-    add(alloc, &mut rules, &[head(F), X, head(A)], &[head(B)])?;
-    add(alloc, &mut rules, &[head(G), X], &[head(A)])?;
-    Ok(rules)
-}
-
-// g(h(a)) = b; h(b) = a: a node inside a part of a left side is a redex.
-fn parts(alloc: Global) -> Result<Rules, NoMemory> {
-    let mut rules = Rules::new(alloc);
-    add(alloc, &mut rules, &[head(G), head(H), head(A)], &[head(B)])?;
-    add(alloc, &mut rules, &[head(H), head(B)], &[head(A)])?;
-    Ok(rules)
-}
-
-// h(f(a, b)) = a; f(b, a) = b; g(x) = a: a part is met further on than the whole.
-fn further(alloc: Global) -> Result<Rules, NoMemory> {
-    let mut rules = Rules::new(alloc);
-    add(
-        alloc,
-        &mut rules,
-        &[head(H), head(F), head(A), head(B)],
-        &[head(A)],
-    )?;
-    add(alloc, &mut rules, &[head(F), head(B), head(A)], &[head(B)])?;
-    add(alloc, &mut rules, &[head(G), X], &[head(A)])?;
-    Ok(rules)
-}
-
-// f(n, a) = n where n is a truth value; f(h(x), y) = y; g(x) = a.
-fn classes(alloc: Global) -> Result<Rules, NoMemory> {
-    let mut rules = Rules::new(alloc);
-    add(alloc, &mut rules, &[head(F), TRUTH, head(A)], &[TRUTH])?;
-    add(alloc, &mut rules, &[head(F), head(H), X, Y], &[Y])?;
-    add(alloc, &mut rules, &[head(G), X], &[head(A)])?;
-    Ok(rules)
-}
-
-// The term whose symbols are the digits of the number, if there is one.
-fn term_by_number(alloc: Global, symbols: &[u8], number: usize) -> Result<Option<Flat>, NoMemory> {
-    let mut chosen: Vec<u8> = vec![in alloc]?;
-    let mut rest = number;
-    for _ in 0..5 {
-        if let Some(digit) = rest.checked_rem(symbols.len()) {
-            if let Some(symbol) = symbols.get(digit) {
-                chosen.push(*symbol)?;
-            }
-            rest /= symbols.len();
+// Terms and equations in a short notation: a letter for each cell in preorder. X and Y are variables, M is the
+// greatest numeral, A an atom, and T, U and V are strings. The small letters are the symbols, eight for each
+// number of arguments: a and b are the truth values.
+fn cell_of(letter: u8) -> Cell
+    ensures { CellTakesArguments result }
+{
+    match letter {
+        b'a'..=b'x' => {
+            let symbol = letter - b'a';
+            Cell::Head(Head::Symbol(u32::from(symbol)), symbol / 8)
         }
+        b'0'..=b'9' => Cell::Head(Head::Numeral(i128::from(letter - b'0')), 0),
+        b'M' => Cell::Head(Head::Numeral(i128::MAX), 0),
+        b'A' => Cell::Head(Head::Atom(0), 0),
+        b'T'..=b'V' => Cell::Head(Head::Text(usize::from(letter - b'T')), 0),
+        _ => Cell::Var(u32::from(letter)),
     }
-    term(alloc, &chosen)
 }
 
-// Whether the next redex of each small term over these symbols is that of the definition.
-fn is_next_by_definition(
-    alloc: Global,
-    regular: &Regular,
-    symbols: &Symbols,
-    letters: &[u8],
-) -> Result<bool, NoMemory> {
-    for number in 0..7776 {
-        if let Some(term) = term_by_number(alloc, letters, number)? {
-            let wanted = next_by_definition(alloc, regular.rules(), &term)?;
-            if next_of(regular, symbols, &term) != Some(wanted) {
-                return Ok(false);
-            }
+// The pattern with these letters, if there is one.
+fn pattern(alloc: Global, letters: &str) -> Result<Option<Pattern>, NoMemory> {
+    let mut maker = PatternMaker::new(alloc);
+    for letter in letters.as_bytes() {
+        if maker.missing() == 0 {
+            return Ok(None);
         }
+        maker.push_cell(cell_of(*letter))?;
     }
-    Ok(true)
+    Ok(if maker.missing() == 0 {
+        Some(maker.finish())
+    } else {
+        None
+    })
 }
 
-#[test]
-fn next_redexes_are_those_of_the_definition(rt: HostRuntime) -> Result<(), Fail> {
-    let alloc = rt.alloc();
-    let symbols = names(alloc).ok().expect(&rt, "these are names");
-    for (rules, letters) in [
-        (sums(alloc)?, [PLUS, S, Z, LOOP, F, A]),
-        (sums(alloc)?, [F, G, PLUS, Z, A, B]),
-        (parts(alloc)?, [G, H, F, A, B, Z]),
-        (further(alloc)?, [H, F, G, A, B, Z]),
-        (classes(alloc)?, [F, H, G, A, B, YES]),
+// The term with these letters, if there is one.
+fn term(alloc: Global, letters: &str) -> Result<Option<Flat>, NoMemory> {
+    let mut maker = FlatMaker::new(alloc);
+    for letter in letters.as_bytes() {
+        let Cell::Head(head, arity) = cell_of(*letter) else {
+            return Ok(None);
+        };
+        if maker.missing() == 0 {
+            return Ok(None);
+        }
+        maker.push_cell(head, arity)?;
+    }
+    Ok(if maker.missing() == 0 {
+        Some(maker.finish())
+    } else {
+        None
+    })
+}
+
+// Adds the equation of an operation with this symbol.
+fn add_operation(alloc: Global, rules: &mut Rules, op: Op, symbol: u8) -> Result<(), NoMemory> {
+    rules.push(Equation {
+        left: schema_left(alloc, op, u32::from(symbol))?,
+        right: Right::Schema(op),
+        origin: Origin { item: 1, part: 0 },
+    })
+}
+
+// Equations with these sides, and those of operations, if they are equations.
+fn rules_of(alloc: Global, sides: &[(&str, &str)]) -> Result<Option<Rules>, NoMemory> {
+    let mut rules = Rules::new(alloc);
+    for (left, right) in sides {
+        let Some(left) = pattern(alloc, left)? else {
+            return Ok(None);
+        };
+        let Some(right) = pattern(alloc, right)? else {
+            return Ok(None);
+        };
+        rules.push(Equation {
+            left,
+            right: Right::Tree(right),
+            origin: Origin { item: 1, part: 0 },
+        })?;
+    }
+    for (op, letter) in [
+        (Op::AddInt, b's'),
+        (Op::DivInt, b't'),
+        (Op::ConcatStr, b'u'),
+        (Op::EquAtom, b'v'),
+        (Op::EquStr, b'v'),
     ] {
-        let regular = admitted(alloc, rules)?.expect(&rt, "these are regular");
-        assert!(rt; is_next_by_definition(alloc, &regular, &symbols, &letters)?);
+        add_operation(alloc, &mut rules, op, letter - b'a')?;
     }
-    Ok(())
+    Ok(Some(rules))
 }
 
-// How a run ends over a table of all names, if its conditions are met.
-fn end_of_run(
-    alloc: Global,
-    regular: &Regular,
-    start: Flat,
-    budget: u64,
-) -> Result<Option<PlainEnd>, NoMemory> {
-    let Ok(mut symbols) = names(alloc) else {
+// The equations as regular ones, where they are well formed and regular.
+fn admitted(alloc: Global, rules: Rules) -> Result<Option<Regular>, NoMemory> {
+    let mut arities: Vec<u8> = Vec::new(alloc);
+    for symbol in 0..END {
+        arities.push(symbol / 8)?;
+    }
+    if !are_well_formed(&rules, &arities) {
         return Ok(None);
-    };
-    run_of(alloc, regular, &mut symbols, start, budget)
+    }
+    Ok(Regular::admit(alloc, rules).ok())
 }
 
-// Whether the run ends in this normal form after so many steps.
-fn is_normal_after(
+// A table of all symbols, named by their letters, with the atom 0 and the strings 0 and 1.
+fn names(alloc: Global) -> Result<Symbols, SymbolError> {
+    let mut symbols = Symbols::new(alloc);
+    symbols.include(b"truth_values")?;
+    for symbol in 2..END {
+        symbols.declare(&[b'a' + symbol], i128::from(symbol / 8))?;
+    }
+    symbols.intern_atom(b"at")?;
+    symbols.intern_text(b"a")?;
+    symbols.intern_text(b"b")?;
+    Ok(symbols)
+}
+
+// Whether a run ends in this normal form after so many steps, and this is the first node past the limits before.
+fn is_answered(
     alloc: Global,
     regular: &Regular,
-    start: &[u8],
-    end: &[u8],
-    steps: u64,
+    symbols: &mut Symbols,
+    start: Flat,
+    wanted: (Flat, u64, Option<usize>),
 ) -> Result<bool, NoMemory> {
-    let Some(start) = term(alloc, start)? else {
+    let (end, steps, past) = wanted;
+    if !are_live(regular.rules(), symbols)
+        || !is_live_term(&start, symbols)
+        || !knows_truths(regular.rules(), symbols)
+    {
         return Ok(false);
-    };
-    let Some(end) = term(alloc, end)? else {
+    }
+    let is_normal = plain_next(regular, symbols, &start) == Next::Normal;
+    if is_normal != (steps == 0) || first_past(regular, symbols, &start) != past {
         return Ok(false);
-    };
-    let Some(found) = end_of_run(alloc, regular, start, steps)? else {
-        return Ok(false);
-    };
-    Ok(match found {
+    }
+    Ok(match plain_run(alloc, regular, symbols, start, steps)? {
         PlainEnd::Normal(found, made) => made == steps && same_tree(&found, &end),
         PlainEnd::Spent(_) => false,
     })
 }
 
-// Whether the run spends the budget.
-fn is_spent(alloc: Global, regular: &Regular, start: &[u8], budget: u64) -> Result<bool, NoMemory> {
-    let Some(start) = term(alloc, start)? else {
-        return Ok(false);
+fn knows_truths(rules: &Rules, symbols: &Symbols) -> bool
+    ensures { IsTrue result → AreTruthsKnown symbols.now rules.now }
+{
+    symbols.included(2)
+}
+
+fn are_live(rules: &Rules, symbols: &Symbols) -> bool
+    ensures { IsTrue result → AreLive symbols.now rules.now }
+{
+    for number in 0..rules.len() {
+        if !is_live_equation(rules.equation(number), symbols) {
+            return false;
+        }
+    }
+    true
+}
+
+fn is_live_equation(equation: &Equation, symbols: &Symbols) -> bool
+    ensures { IsTrue result → IsLiveEquation symbols.now equation.now }
+{
+    let right = match &equation.right {
+        Right::Tree(right) => is_live_pattern(right, symbols),
+        Right::Schema(_) => true,
     };
-    let Some(found) = end_of_run(alloc, regular, start, budget)? else {
-        return Ok(false);
-    };
-    Ok(match found {
-        PlainEnd::Normal(_, _) => false,
-        PlainEnd::Spent(_) => true,
-    })
+    right && is_live_pattern(&equation.left, symbols)
+}
+
+fn is_live_pattern(pattern: &Pattern, symbols: &Symbols) -> bool
+    ensures { IsTrue result → IsLivePattern symbols.now pattern.now }
+{
+    for at in 0..pattern.len() {
+        if !is_live_cell(pattern.cell(at), symbols) {
+            return false;
+        }
+    }
+    true
+}
+
+fn is_live_cell(cell: Cell, symbols: &Symbols) -> bool
+    ensures { IsTrue result → IsLiveCell symbols.now (kind_of cell) }
+{
+    match cell {
+        Cell::Head(head, _) => is_live_head(head, symbols),
+        Cell::Var(_) | Cell::Class(_, _) => true,
+    }
+}
+
+fn is_live_term(term: &Flat, symbols: &Symbols) -> bool
+    ensures { IsTrue result → IsLiveTerm symbols.now term.now }
+{
+    for at in 0..term.len() {
+        if !is_live_head(term.head(at), symbols) {
+            return false;
+        }
+    }
+    true
+}
+
+fn is_live_head(head: Head, symbols: &Symbols) -> bool
+    ensures { IsTrue result → IsLiveHead symbols.now head }
+{
+    match head {
+        Head::Symbol(0) => has_name(symbols, b"true", 0),
+        Head::Symbol(1) => has_name(symbols, b"false", 1),
+        Head::Symbol(symbol) => {
+            symbol < u32::from(END) && has_name(symbols, &[b'a' + symbol as u8], symbol)
+        }
+        Head::Numeral(_) => true,
+        Head::Atom(number) => number < symbols.mark().atoms,
+        Head::Text(number) => number < symbols.mark().texts,
+    }
+}
+
+fn has_name(symbols: &Symbols, name: &[u8], symbol: u32) -> bool
+    ensures { IsTrue result → IsLive symbols.now symbol }
+{
+    match symbols.find(name) {
+        Some((number, _)) => number == symbol,
+        None => false,
+    }
 }
 
 #[test]
 fn runs_end_as_written(rt: HostRuntime) -> Result<(), Fail> {
     let alloc = rt.alloc();
-    let regular = admitted(alloc, sums(alloc)?)?.expect(&rt, "these are regular");
-    let sum = [PLUS, S, S, Z, S, Z];
-    assert!(rt; is_normal_after(alloc, &regular, &sum, &[S, S, S, Z], 3)?);
-    assert!(rt; is_spent(alloc, &regular, &sum, 2)?);
-    // The left side of f asks for its second argument alone.
-    assert!(rt; is_normal_after(alloc, &regular, &[F, LOOP, G, LOOP], &[B], 2)?);
-    Ok(())
-}
-
-// The operations, each by its symbol.
-fn operations(alloc: Global) -> Result<Rules, NoMemory> {
-    let mut rules = Rules::new(alloc);
-    for (op, symbol) in [
-        (Op::AddInt, ADD),
-        (Op::DivInt, DIVIDE),
-        (Op::ConcatStr, CONCAT),
-        (Op::EquAtom, EQU),
-        (Op::EquStr, EQU),
-        (Op::LengthStr, LENGTH),
+    let sides = [
+        // Sums, where c is 0 and i the next number.
+        ("qcX", "X"),
+        ("qiXY", "iqXY"),
+        // A loop, a function that asks for its second argument alone, and one that asks for none.
+        ("d", "d"),
+        ("rXe", "f"),
+        ("jX", "e"),
+    ];
+    let rules = rules_of(alloc, &sides)?.expect(&rt, "these are equations");
+    let regular = admitted(alloc, rules)?.expect(&rt, "these are regular");
+    let mut symbols = names(alloc).ok().expect(&rt, "these are names");
+    // A term, its normal form, the steps to it, and the first node past the limits.
+    for (start, end, steps, past) in [
+        ("qiicic", "iiic", 3, None),
+        ("rdjd", "f", 2, None),
+        ("s23", "5", 1, None),
+        ("t50", "t50", 0, None),
+        ("sM1", "sM1", 0, Some(0)),
+        ("vAA", "a", 1, None),
+        ("vTU", "b", 1, None),
+        // The joined string gets the first number that is free.
+        ("uTU", "V", 1, None),
     ] {
-        let left = schema_left(alloc, op, symbol)?;
-        let origin = Origin { item: 1, part: 0 };
-        let right = Right::Schema(op);
-        rules.push(Equation {
-            left,
-            right,
-            origin,
-        })?;
+        let from = term(alloc, start)?.expect(&rt, "this is a term");
+        let to = term(alloc, end)?.expect(&rt, "this is a term");
+        let wanted = (to, steps, past);
+        let is_right = is_answered(alloc, &regular, &mut symbols, from, wanted)?;
+        assert!(rt; is_right, "{start}");
     }
-    Ok(rules)
-}
-
-// The symbol over two constants.
-fn over(alloc: Global, symbol: u32, one: Head, other: Head) -> Result<Flat, NoMemory> {
-    let mut maker = FlatMaker::new(alloc);
-    maker.push_cell(Head::Symbol(symbol), 2)?;
-    maker.push_cell(one, 0)?;
-    maker.push_cell(other, 0)?;
-    Ok(maker.finish())
-}
-
-// The head of the normal form of an operation on two numerals.
-fn of_numerals(
-    alloc: Global,
-    regular: &Regular,
-    symbol: u32,
-    a: i128,
-    b: i128,
-) -> Result<Option<Head>, NoMemory> {
-    let start = over(alloc, symbol, Head::Numeral(a), Head::Numeral(b))?;
-    let Some(end) = end_of_run(alloc, regular, start, 9)? else {
-        return Ok(None);
-    };
-    Ok(head_of_end(&end))
-}
-
-// The head of the normal form of an operation on two atoms.
-fn of_atoms(
-    alloc: Global,
-    regular: &Regular,
-    symbol: u32,
-    a: usize,
-    b: usize,
-) -> Result<Option<Head>, NoMemory> {
-    let start = over(alloc, symbol, Head::Atom(a), Head::Atom(b))?;
-    let Some(end) = end_of_run(alloc, regular, start, 9)? else {
-        return Ok(None);
-    };
-    Ok(head_of_end(&end))
-}
-
-// The head of the normal form of an operation on two strings.
-fn of_texts(
-    alloc: Global,
-    regular: &Regular,
-    symbol: u32,
-    a: usize,
-    b: usize,
-) -> Result<Option<Head>, NoMemory> {
-    let start = over(alloc, symbol, Head::Text(a), Head::Text(b))?;
-    let Some(end) = end_of_run(alloc, regular, start, 9)? else {
-        return Ok(None);
-    };
-    Ok(head_of_end(&end))
-}
-
-// The head of a normal form.
-fn head_of_end(end: &PlainEnd) -> Option<Head> {
-    match end {
-        PlainEnd::Normal(found, _) if found.len() > 0 => Some(found.head(0)),
-        _ => None,
-    }
-}
-
-// The first node that is past, where an operation stands over two numerals.
-fn past_in(
-    alloc: Global,
-    regular: &Regular,
-    symbol: u32,
-    a: i128,
-    b: i128,
-) -> Result<Option<usize>, NoMemory> {
-    let Ok(symbols) = names(alloc) else {
-        return Ok(None);
-    };
-    let start = over(alloc, symbol, Head::Numeral(a), Head::Numeral(b))?;
-    Ok(past_of(regular, &symbols, &start))
-}
-
-#[test]
-fn numerals_are_added_and_divided(rt: HostRuntime) -> Result<(), Fail> {
-    let alloc = rt.alloc();
-    let regular = admitted(alloc, operations(alloc)?)?.expect(&rt, "these are regular");
-    let sum = of_numerals(alloc, &regular, ADD, 2, 3)?;
-    assert!(rt; sum == Some(Head::Numeral(5)));
-    // By 0 there is no value, and nothing is past.
-    let stuck = of_numerals(alloc, &regular, DIVIDE, 5, 0)?;
-    assert!(rt; stuck == Some(Head::Symbol(DIVIDE)));
-    assert!(rt; past_in(alloc, &regular, DIVIDE, 5, 0)?.is_none());
-    assert!(rt; past_in(alloc, &regular, ADD, i128::MAX, 1)?.is_some());
-    Ok(())
-}
-
-#[test]
-fn atoms_and_strings_are_compared_and_joined(rt: HostRuntime) -> Result<(), Fail> {
-    let alloc = rt.alloc();
-    let regular = admitted(alloc, operations(alloc)?)?.expect(&rt, "these are regular");
-    let same = of_atoms(alloc, &regular, EQU, 0, 0)?;
-    assert!(rt; same == Some(Head::Symbol(0)));
-    let other = of_texts(alloc, &regular, EQU, 0, 1)?;
-    assert!(rt; other == Some(Head::Symbol(1)));
-    // The joined string gets the first number that is free.
-    let joined = of_texts(alloc, &regular, CONCAT, 0, 1)?;
-    assert!(rt; joined == Some(Head::Text(2)));
     Ok(())
 }

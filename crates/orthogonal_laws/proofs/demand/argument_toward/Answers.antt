@@ -1,13 +1,13 @@
 use Rattle.std.proofs.Common.{◌≡◌, ◌+◌, arith, sym, ◌∙◌, ap, Some}
 use Rattle.eq_base.specs.Tree.{nth_subtree, size}
 use Rattle.eq_base.proofs.Trees.{argument_of, argument_of-within, subtree_at-argument_of, argument_of-more}
-use Rattle.orthogonal_laws.proofs.Numbers.{has_node}
-use Rattle.orthogonal_laws.proofs.Arguments.{some_argument, not_last, place_of}
+use Rattle.eq_base.proofs.Numbers.{has_node}
+use Rattle.eq_base.proofs.Arguments.{has_more, place_of}
 use Rattle.orthogonal_laws.proofs.demand.argument_toward.Goals as goal
 
 pub loop-argument-init : goal.loop-argument-init
 loop-argument-init c =
-    record { i = 0; there = some_argument (nth_subtree c.args.term.now c.args.at) (omega arith); place = omega arith; before = omega arith }
+    record { i = 0; there = has_more (nth_subtree c.args.term.now c.args.at) 0 (omega arith); place = omega arith; before = omega arith }
 
 pub end_of-requires : goal.end_of-requires
 end_of-requires c = let i = c.loop-argument.invariant in let z = argument_of-within c.args.term.now c.args.at i.i c.requires.at i.there in omega (arith, z)
@@ -28,7 +28,7 @@ loop-argument-preserved c =
     let same : size (nth_subtree c.args.term.now (argument_of c.args.term.now c.args.at i.i)) ≡ size (nth_subtree c.args.term.now c.loop-argument.argument) = ap (λ z. size (nth_subtree c.args.term.now z)) (sym i.place) in
     record {
       i = i.i + 1;
-      there = not_last (nth_subtree c.args.term.now c.args.at) (i.i + 1) (omega (arith, more, same));
+      there = has_more (nth_subtree c.args.term.now c.args.at) (i.i + 1) (omega (arith, more, same));
       place = omega (arith, more, same);
       before = omega arith;
     }

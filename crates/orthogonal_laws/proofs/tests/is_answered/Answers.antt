@@ -1,6 +1,6 @@
 use Rattle.std.proofs.Common.{subst}
 use Rattle.orthogonal_laws.specs.Operations.{AreTruthsKnown}
-use Rattle.orthogonal_laws.proofs.samples.run_of.Goals as goal
+use Rattle.orthogonal_laws.proofs.tests.is_answered.Goals as goal
 
 pub plain_run-requires-clause-truths : goal.plain_run-requires-clause-truths
 plain_run-requires-clause-truths c =

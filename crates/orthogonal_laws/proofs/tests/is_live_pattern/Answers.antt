@@ -2,7 +2,7 @@ use Rattle.std.proofs.Common.{◌≡◌, true, arith, below_more}
 use Rattle.eq_base.specs.Tree.{nth_subtree}
 use Rattle.symbol_table.specs.Reading.{IsLiveCell}
 use Rattle.orthogonal_laws.proofs.Lives.{heads_from_nodes, cell_there}
-use Rattle.orthogonal_laws.proofs.samples.is_live_pattern.Goals as goal
+use Rattle.orthogonal_laws.proofs.tests.is_live_pattern.Goals as goal
 
 pub loop-at-preserved : goal.loop-at-preserved
 loop-at-preserved c =

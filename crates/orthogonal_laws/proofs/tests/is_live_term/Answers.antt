@@ -1,7 +1,7 @@
 use Rattle.std.proofs.Common.{◌≡◌, true, arith, below_more, subst}
 use Rattle.symbol_table.specs.Reading.{IsLiveHead}
 use Rattle.orthogonal_laws.proofs.Lives.{heads_from_nodes}
-use Rattle.orthogonal_laws.proofs.samples.is_live_term.Goals as goal
+use Rattle.orthogonal_laws.proofs.tests.is_live_term.Goals as goal
 
 pub loop-at-preserved : goal.loop-at-preserved
 loop-at-preserved c =
