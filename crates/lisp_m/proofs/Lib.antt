@@ -8,3 +8,4 @@ pub mod Counting
 pub mod Reached
 pub mod Lists
 pub mod Prints
+pub mod RoundTrip

@@ -1,5 +1,5 @@
--- The names, literals and parts of lists of a term as they are met from left to right, each with its arguments so
--- far.
+-- The names, literals and parts of lists of a term as they are met from left to right, each with its
+-- arguments so far.
 use Rattle.std.specs.Prelude.{ℕ, zero, suc, ◌+◌, ◌-◌, ◌<◌, ◌≤◌, Bool, true, false, List, [], ◌∷◌, ◌++◌, length, map, reverse, All, Option, Some, None, cond, ◌&&◌}
 use Rattle.term_lex.specs.declared.token.Token.{Token}
 use Rattle.term_lex.specs.declared.token.TokenKind.{TokenKind}
@@ -86,8 +86,8 @@ module _ {A : Type 0} where
   added NoElement n hs = with_two n hs
   added bracket n hs = hs
 
-  -- what a term that begins does to the heads before it: it is one more argument, the first element, or one more
-  -- element with a part of its own
+  -- what a term that begins does to the heads before it: it is one more argument, the first element, or one
+  -- more element with a part of its own
   abbrev pub room : Bracket → ℕ → List (A × ℕ) → List (A × ℕ)
   room Square n hs = increased n hs
   room NoElement n hs = with_two n hs
@@ -138,8 +138,8 @@ pub record IsSound (mentions : List Mention) (opens : List Open) : Type 0 where
   pub inside : All (λ bracket. bracket.number < length mentions) opens
   pub few : All (λ mention. mention.args ≤ length mentions + 1) mentions
 
--- these are the names, literals and parts of lists of the term that is read from `at` to `end`, each with its number
--- of arguments
+-- these are the names, literals and parts of lists of the term that is read from `at` to `end`, each with its
+-- number of arguments
 abbrev pub Mentioned : List ℕ → ℕ → List Mention → ℕ → Type 0
 Mentioned text at mentions end = written.Mentioned lisp_m text at mentions end
 

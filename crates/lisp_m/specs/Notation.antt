@@ -31,7 +31,8 @@ abbrev mutual
   rest_outline x (Dotted t) = outline t
   rest_outline x (Further t rest) = node x (grow (outline t) (grow (rest_outline x rest) empty))
 
--- a dot where a list could end: directly behind the bracket that opens it, or behind the term that follows its dot
+-- a dot where a list could end: directly behind the bracket that opens it, or behind the term that follows
+-- its dot
 abbrev pub IsDotPlace : (List Lexeme → Type 0) → List Lexeme → Lexeme → Type 0
 IsDotPlace IsSentence before x =
     IsKind Dot x × ((close : Lexeme) × IsKind CloseRound close × IsViable IsSentence (before ++ close ∷ []))

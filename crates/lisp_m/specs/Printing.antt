@@ -27,7 +27,9 @@ symbol_part is_cons is_nil args = cond (is_cons && args == 2) Element (cond (is_
 abbrev pub list_part : Table → ReadHead → ℕ → Part
 list_part table (symbol n) args =
     let name = symbol_name table n in
-    cond (has_lists table) (symbol_part (bytes_eq name (codes "cons")) (bytes_eq name (codes "nil")) args) Other
+    cond (has_lists table)
+    (symbol_part (bytes_eq name (codes "cons")) (bytes_eq name (codes "nil")) args)
+    Other
 list_part table head args = Other
 
 -- ---- how terms are printed
@@ -41,7 +43,8 @@ choose Other element end other = other
 -- Heads have texts, and over so many arguments they are parts of lists.
 module _ {H : Type 0} (text_of : H → List ℕ) (part_of : H → ℕ → Part) where
   abbrev mutual
-    -- a list in round brackets; any other term is the text of its head, with the arguments behind it in square brackets
+    -- a list in round brackets; any other term is the text of its head, with the arguments behind it in
+    -- square brackets
     pub print_by : Tree H → List ℕ
     print_by (node head args) =
         choose (part_of head (count args))
@@ -67,7 +70,8 @@ module _ {H : Type 0} (text_of : H → List ℕ) (part_of : H → ℕ → Part) 
     behind_element empty = []
     behind_element (grow t ts) = print_rest t
 
-    -- what stands behind an element: a blank and the next one, the bracket that closes the list, or a dot and the last term
+    -- what stands behind an element: a blank and the next one, the bracket that closes the list, or a dot
+    -- and the last term
     pub print_rest : Tree H → List ℕ
     print_rest (node head args) =
         choose (part_of head (count args))

@@ -7,8 +7,8 @@ use Rattle.term_lex.specs.declared.token.TokenKind.TheVariants.{Name, Numeral, T
 use Rattle.term_lex.specs.Lexemes.{Lexeme}
 use Rattle.term_lex.specs.Parts.{Some}
 
--- a term as it is written, with the lexemes of its names, numerals and strings, and of the brackets that open its
--- lists
+-- a term as it is written, with the lexemes of its names, numerals and strings, and of the brackets that open
+-- its lists
 mutual
   pub data Written : Type 0 where
     Constant : Lexeme → Written  -- a

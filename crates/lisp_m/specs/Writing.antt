@@ -41,7 +41,8 @@ module _ (table : Table) (trees : List (Tree Head)) where
   abbrev pub piece_text : Piece → List ℕ
   piece_text (Term n) = print_in table (tree_at trees n)
   piece_text (Arguments n written) =
-      behind_semicolons (text_in table) (part_in table) (later_trees written (args_of (tree_at trees n))) ++ codes "]"
+      behind_semicolons (text_in table) (part_in table) (later_trees written (args_of (tree_at trees n)))
+      ++ codes "]"
   piece_text (ListRest n) = print_rest (text_in table) (part_in table) (tree_at trees n)
   piece_text ListEnd = codes ")"
 
@@ -76,8 +77,8 @@ module _ (table : Table) (trees : List (Tree Head)) where
   two_pieces None = []
   two_pieces (Some (first, second)) = first ∷ second ∷ []
 
-  -- bytes are written with which the text begins, and the pieces are what is left of it; there is a byte where pieces
-  -- are left
+  -- bytes with which the text begins are written, and the pieces are what is left of it; there is a byte
+  -- where pieces are left
   pub record WritesFront (old new text : List ℕ) (left : Option (Piece × Piece)) : Type 0 where
     pub bytes : List ℕ
     pub added : new ≡ old ++ bytes

@@ -69,3 +69,33 @@ fn lists_without_nil(rt: HostRuntime) {
         );
     }
 }
+
+#[test]
+fn prints(rt: HostRuntime) -> Result<(), Fail> {
+    let mut symbols = Symbols::new(rt.alloc());
+    for (name, arity) in [
+        (b"cons".as_slice(), 2),
+        (b"nil", 0),
+        (b"a", 0),
+        (b"b", 0),
+        (b"f", 1),
+        (b"g", 2),
+    ] {
+        assert!(rt; symbols.declare(name, arity).is_ok());
+    }
+    for (text, want) in [
+        (b"cons[a; nil[]].".as_slice(), b"(a)".as_slice()),
+        (b"(a b b . a).", b"(a b b . a)"),
+        (
+            b"((a . ()) (b . (a . b)) . f[(a)]).",
+            b"((a) (b a . b) . f[(a)])",
+        ),
+        (b"g[f[b]; ()].", b"g[f[b]; ()]"),
+    ] {
+        let (term, _) = read_term(rt.alloc(), &mut symbols, text, 0)?;
+        let mut printed = Vec::new(rt.alloc());
+        write_term(rt.alloc(), &symbols, &term, 0, &mut printed)?;
+        assert_eq!(rt; printed.as_slice(), want);
+    }
+    Ok(())
+}

@@ -4,7 +4,9 @@ ghost use Rattle.eq_base.specs.Tree.{head_of, arity_of};
 ghost use Rattle.eq_base.specs.View.{tree_at};
 ghost use Rattle.symbol_table.specs.Table.{IsFront, names_of};
 ghost use Rattle.symbol_table.specs.Reading.{read, IsLiveHead, IsLiveTerm};
+ghost use Rattle.written_terms.specs.Readable.{IsReadableTerm};
 ghost use Rattle.lisp_m.specs.Printing.{symbol_part, print};
+ghost use Rattle.lisp_m.specs.Readable.{IsReadAgain};
 ghost use Rattle.lisp_m.specs.Writing.{AreLists, part_in, print_in, piece_text, text_left, steps_left, IsNode, IsPiece, ArePieces, IsElement, WritesFront};
 ghost use Rattle.lisp_m.specs.declared.write.Part.TheVariants.{Other};
 ghost use Rattle.lisp_m.specs.declared.write.Piece.TheVariants.{Arguments, ListRest};
@@ -255,6 +257,9 @@ pub fn write_term<T: TermView>(
     ensures ok { OnOk result (into.new.items
         ≡ into.old.items
         ++ print (names_of symbols.now) (read symbols.now (tree_at (T.trees view.now) node))) }
+    ensures read_again { IsReadableTerm (names_of symbols.now)
+        (read symbols.now (tree_at (T.trees view.now) node))
+        → IsReadAgain (names_of symbols.now) (read symbols.now (tree_at (T.trees view.now) node)) }
     ensures front { IsFront into.old.items into.new.items }
 {
     let lists = list_symbols(symbols);

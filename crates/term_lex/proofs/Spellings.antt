@@ -13,7 +13,7 @@ use Rattle.std.specs.List.{prefix_len}
 use Rattle.std.specs.Str.Parse.{AllDigits, digits_value}
 use Rattle.eq_base.proofs.Decimals.{decimal-WritesSize}
 use Rattle.term_lex.specs.declared.token.TokenKind.{TokenKind}
-use Rattle.term_lex.specs.declared.token.TokenKind.TheVariants.{Name, Numeral, Text, OpenRound, CloseRound, Comma, Dot}
+use Rattle.term_lex.specs.declared.token.TokenKind.TheVariants.{Name, Numeral, Text, OpenRound, CloseRound, Comma, Dot, OpenSquare, CloseSquare, Semicolon}
 use Rattle.term_lex.specs.declared.fault.FaultKind.TheVariants.{NameLong, NumeralPast}
 use Rattle.term_lex.specs.Bytes.{is_blank, is_name_start, is_name_byte}
 use Rattle.term_lex.specs.Gaps.{IsGap}
@@ -235,6 +235,15 @@ open_spells follow = sign_spells 40 OpenRound follow (refl, λ e. omega (arith, 
 
 pub close_spells : (follow : List ℕ) → Spells CloseRound (41 ∷ []) follow
 close_spells follow = sign_spells 41 CloseRound follow (refl, λ e. omega (arith, e)) (λ e. omega (arith, e)) (λ from. refl)
+
+pub open_square_spells : (follow : List ℕ) → Spells OpenSquare (91 ∷ []) follow
+open_square_spells follow = sign_spells 91 OpenSquare follow (refl, λ e. omega (arith, e)) (λ e. omega (arith, e)) (λ from. refl)
+
+pub close_square_spells : (follow : List ℕ) → Spells CloseSquare (93 ∷ []) follow
+close_square_spells follow = sign_spells 93 CloseSquare follow (refl, λ e. omega (arith, e)) (λ e. omega (arith, e)) (λ from. refl)
+
+pub semicolon_spells : (follow : List ℕ) → Spells Semicolon (59 ∷ []) follow
+semicolon_spells follow = sign_spells 59 Semicolon follow (refl, λ e. omega (arith, e)) (λ e. omega (arith, e)) (λ from. refl)
 
 pub comma_spells : (follow : List ℕ) → Spells Comma (44 ∷ []) follow
 comma_spells follow = sign_spells 44 Comma follow (refl, λ e. omega (arith, e)) (λ e. omega (arith, e)) (λ from. refl)
