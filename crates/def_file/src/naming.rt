@@ -53,9 +53,8 @@ pub fn take_names(
     requires short { length text.now ≤ 2 ^ 24 }
     requires reads { IsFileText (notation_of syntax) text.now (file written.now) }
     ensures naming { IsNaming (notation_of syntax) text.now (file written.now) result }
-    ensures items { IfOk result (λ named. MeanItems (notation_of syntax) text.now (known_of named) 1
-        (file written.now).items
-        (map (numbered_read named.symbols) named.taken.items.items)) }
+    ensures items { IfOk result (λ named. MeanItems (notation_of syntax) text.now (known_of named)
+        1 (file written.now).items (map (numbered_read named.symbols) named.taken.items.items)) }
     ensures live { IfOk result (λ named. AreLiveItems named.symbols named.taken.items.items) }
     ensures limits { IfOk result (λ named. AnswersLimits (notation_of syntax) text.now (known_of named)
         (all_limits 0 (sides_of (file written.now))) named.taken.fault) }

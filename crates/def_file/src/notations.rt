@@ -25,6 +25,7 @@ pub fn skip_term(alloc: Global, text: &[u8], syntax: Syntax, at: usize) -> Resul
 {
     match syntax {
         Syntax::Standmath => standmath::skip_term(alloc, text, at),
+        Syntax::LispM => lisp_m::skip_term(alloc, text, at),
     }
 }
 
@@ -46,5 +47,6 @@ pub fn read_pattern(
 {
     match syntax {
         Syntax::Standmath => standmath::read_pattern(alloc, symbols, variables, text, at),
+        Syntax::LispM => lisp_m::read_pattern(alloc, symbols, variables, text, at),
     }
 }

@@ -7,8 +7,8 @@ use std::test::Fail;
 use term_lex::{Fault, FaultKind, Syntax, TokenKind};
 
 /// The error of a file, if it has one.
-fn error_of(alloc: Global, text: &[u8]) -> Option<FileError> {
-    match read_definitions(alloc, text, Syntax::Standmath) {
+fn error_of(alloc: Global, text: &[u8], syntax: Syntax) -> Option<FileError> {
+    match read_definitions(alloc, text, syntax) {
         Ok(_) => None,
         Err(error) => Some(error),
     }
@@ -199,7 +199,10 @@ fn faults(rt: HostRuntime) -> Result<(), Fail> {
         ),
     ] {
         let fault = Fault { kind, byte };
-        assert_eq!(rt; error_of(rt.alloc(), text), Some(FileError::Refused(fault)));
+        assert_eq!(rt;
+            error_of(rt.alloc(), text, Syntax::Standmath),
+            Some(FileError::Refused(fault))
+        );
     }
     Ok(())
 }
@@ -251,7 +254,7 @@ fn long_sides(rt: HostRuntime) -> Result<(), Fail> {
             })),
             None => None,
         };
-        assert_eq!(rt; error_of(rt.alloc(), &text), expected);
+        assert_eq!(rt; error_of(rt.alloc(), &text, Syntax::Standmath), expected);
     }
     Ok(())
 }
@@ -265,17 +268,60 @@ fn many_equations(rt: HostRuntime) -> Result<(), Fail> {
     }
     let mut more = text.clone()?;
     text.extend_from_slice(b".")?;
-    assert_eq!(rt; error_of(rt.alloc(), &text), None);
+    assert_eq!(rt; error_of(rt.alloc(), &text, Syntax::Standmath), None);
     more.extend_from_slice(b"a = a.")?;
     let fault = Fault {
         kind: FaultKind::EquationsPast,
         byte: 12_311,
     };
     assert_eq!(rt;
-        error_of(rt.alloc(), &more),
+        error_of(rt.alloc(), &more, Syntax::Standmath),
         Some(FileError::Refused(fault))
     );
     Ok(())
+}
+
+#[test]
+fn lists(rt: HostRuntime) {
+    for (text, fault) in [
+        (
+            b"Symbols append: 2; cons: 2; nil: 0. For all x, y, z: append[(); x] = x; append[(x . y); z] = (x . append[y; z]).".as_slice(),
+            None,
+        ),
+        (
+            b"Symbols cons: 2; nil: 0; f: 1; a: 0. For all x: f[( . a)] = a.",
+            Some((FaultKind::DotPlace, 52)),
+        ),
+        (
+            b"Symbols cons: 2; nil: 0; a: 0. For all: (a . a . a) = a.",
+            Some((FaultKind::DotPlace, 47)),
+        ),
+        (
+            b"Symbols cons: 2; nil: 0; a: 0. For all: (a) = . a.",
+            Some((
+                FaultKind::Expected {
+                    found: TokenKind::Dot,
+                },
+                46,
+            )),
+        ),
+        (
+            b"Symbols f: 1; a: 0. For all x: f(x) = a.",
+            Some((
+                FaultKind::Expected {
+                    found: TokenKind::OpenRound,
+                },
+                32,
+            )),
+        ),
+        (
+            b"Symbols f: 1; a: 0. For all x: f[(x)] = a.",
+            Some((FaultKind::ListNeedsCons, 33)),
+        ),
+    ] {
+        let error = fault.map(|(kind, byte)| FileError::Refused(Fault { kind, byte }));
+        assert_eq!(rt; error_of(rt.alloc(), text, Syntax::LispM), error);
+    }
 }
 
 /// How many items a file has, and the byte of its first include or qualifier.

@@ -153,9 +153,8 @@ fn take_condition(
         ∷ restriction_places (restriction condition.now.restriction))
         (knowing symbols.new variables.now operations) result }
     ensures condition { IfOk result
-        (λ taken. Lasts (λ known table. TakesCondition
-        (notation_of syntax) text.now known table condition.now.variable
-        (restriction condition.now.restriction) taken) symbols.new variables.now) }
+        (λ taken. Lasts (λ known table. TakesCondition (notation_of syntax) text.now known table
+        condition.now.variable (restriction condition.now.restriction) taken) symbols.new variables.now) }
     ensures keeps { Keeps symbols.old symbols.new }
 {
     let variable = take_qualified(text, before, condition.variable, variables)?;

@@ -61,8 +61,8 @@ fn alternatives_fault(terms: &[usize], patterns: &[Pattern]) -> Option<Fault>
 fn choice_fault(written: &Restriction, taken: &Choice) -> Option<Fault>
     ensures { (syntax : SyntaxValue) (text : List ℕ) (known : Known) (table : Table)
         → TakesChoice (notation_of syntax) text known table (restriction written.now) taken.now
-        → AnswersLimits (notation_of syntax) text known (map (Cells 255) (alternatives_in
-        (restriction written.now))) result }
+        → AnswersLimits (notation_of syntax) text known
+        (map (Cells 255) (alternatives_in (restriction written.now))) result }
 {
     match (written, taken) {
         (Restriction::OneOf(terms), Choice::OneOf(patterns)) => alternatives_fault(terms, patterns),
@@ -74,8 +74,8 @@ fn choice_fault(written: &Restriction, taken: &Choice) -> Option<Fault>
 fn conditions_fault(conditions: &[Condition], taken: &[TakenCondition]) -> Option<Fault>
     ensures { (syntax : SyntaxValue) (text : List ℕ) (known : Known) (table : Table)
         → AreRelated
-        (λ (c : WrittenCondition) (t : TakenValue). TakesCondition
-        (notation_of syntax) text known table c.variable c.restriction t)
+        (λ (c : WrittenCondition) (t : TakenValue).
+        TakesCondition (notation_of syntax) text known table c.variable c.restriction t)
         (map condition conditions.now) taken.now
         → AnswersLimits (notation_of syntax) text known (map (Cells 255)
         (flat_map alternatives_of (map condition conditions.now))) result }

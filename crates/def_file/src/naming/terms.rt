@@ -30,8 +30,8 @@ pub fn take_term(
         (Term byte ∷ [])
         (knowing symbols.new variables.now operations) result }
     ensures pattern { IfOk result (λ pattern. Lasts
-        (λ known table. IsSideTaken (notation_of syntax) text.now known table byte pattern) symbols.new
-        variables.now) }
+        (λ known table. IsSideTaken (notation_of syntax) text.now known table byte pattern)
+        symbols.new variables.now) }
     ensures keeps { Keeps symbols.old symbols.new }
 {
     let (pattern, _) = read_pattern(alloc, syntax, symbols, variables, text, byte)?;
@@ -53,8 +53,8 @@ pub fn take_terms(
         (map Term terms.now)
         (knowing symbols.new variables.now operations) result }
     ensures patterns { IfOk result (λ patterns. Lasts
-        (λ known table. AreRelated (IsSideTaken (notation_of syntax) text.now known table) terms.now
-        patterns.items)
+        (λ known table. AreRelated (IsSideTaken (notation_of syntax) text.now known table)
+        terms.now patterns.items)
         symbols.new variables.now) }
     ensures keeps { Keeps symbols.old symbols.new }
 {

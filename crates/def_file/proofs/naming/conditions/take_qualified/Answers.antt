@@ -1,7 +1,6 @@
 use Rattle.std.proofs.Common.{inl, refl, subst}
 use Rattle.std.specs.Prelude.{Contains}
 use Rattle.def_file.proofs.Namings.{contains_at}
-use Rattle.def_file.specs.Notations.{notation_of}
 use Rattle.def_file.proofs.naming.conditions.take_qualified.Goals as goal
 
 pub returns-then-is_qualified-clause-taking : goal.returns-then-is_qualified-clause-taking

@@ -2,7 +2,6 @@ use Rattle.std.proofs.Common.{◌≡◌, inl, refl, rules, ◌∙◌, sym}
 use Rattle.std.specs.Prelude.{Contains}
 use Rattle.def_file.specs.Names.{token_bytes}
 use Rattle.def_file.specs.Operations.{operation_name}
-use Rattle.def_file.specs.Notations.{notation_of}
 use Rattle.def_file.proofs.naming.operations.take_operation.Goals as goal
 
 pub returns-then-contains-clause-taking : goal.returns-then-contains-clause-taking
