@@ -112,8 +112,11 @@ fn rules_of(alloc: Global, sides: &[(&str, &str)]) -> Result<Option<Rules>, NoMe
     Ok(Some(rules))
 }
 
-// The equations as regular ones, where they are well formed and regular.
-fn admitted(alloc: Global, rules: Rules) -> Result<Option<Regular>, NoMemory> {
+// Equations with these sides as regular ones, where they are well formed and regular.
+fn admitted(alloc: Global, sides: &[(&str, &str)]) -> Result<Option<Regular>, NoMemory> {
+    let Some(rules) = rules_of(alloc, sides)? else {
+        return Ok(None);
+    };
     let mut arities: Vec<u8> = Vec::new(alloc);
     for symbol in 0..END {
         arities.push(symbol / 8)?;
@@ -244,6 +247,43 @@ fn has_name(symbols: &Symbols, name: &[u8], symbol: u32) -> bool
     }
 }
 
+// Whether the run of one term ends in another one, as it is wanted.
+fn ends_in(
+    alloc: Global,
+    regular: &Regular,
+    symbols: &mut Symbols,
+    start: &str,
+    end: &str,
+    steps: u64,
+    past: Option<usize>,
+) -> Result<bool, NoMemory> {
+    let Some(start) = term(alloc, start)? else {
+        return Ok(false);
+    };
+    let Some(end) = term(alloc, end)? else {
+        return Ok(false);
+    };
+    is_answered(alloc, regular, symbols, start, (end, steps, past))
+}
+
+// Which of these terms, each with its normal form, the steps to it and the first node past the limits, is the
+// first that is not answered so.
+fn first_wrong(
+    alloc: Global,
+    regular: &Regular,
+    rows: &[(&str, &str, u64, Option<usize>)],
+) -> Result<Option<usize>, NoMemory> {
+    let Ok(mut symbols) = names(alloc) else {
+        return Ok(Some(0));
+    };
+    for (number, (start, end, steps, past)) in rows.iter().enumerate() {
+        if !ends_in(alloc, regular, &mut symbols, start, end, *steps, *past)? {
+            return Ok(Some(number));
+        }
+    }
+    Ok(None)
+}
+
 #[test]
 fn runs_end_as_written(rt: HostRuntime) -> Result<(), Fail> {
     let alloc = rt.alloc();
@@ -256,11 +296,7 @@ fn runs_end_as_written(rt: HostRuntime) -> Result<(), Fail> {
         ("rXe", "f"),
         ("jX", "e"),
     ];
-    let rules = rules_of(alloc, &sides)?.expect(&rt, "these are equations");
-    let regular = admitted(alloc, rules)?.expect(&rt, "these are regular");
-    let mut symbols = names(alloc).ok().expect(&rt, "these are names");
-    // A term, its normal form, the steps to it, and the first node past the limits.
-    for (start, end, steps, past) in [
+    let rows = [
         ("qiicic", "iiic", 3, None),
         ("rdjd", "f", 2, None),
         ("s23", "5", 1, None),
@@ -270,12 +306,10 @@ fn runs_end_as_written(rt: HostRuntime) -> Result<(), Fail> {
         ("vTU", "b", 1, None),
         // The joined string gets the first number that is free.
         ("uTU", "V", 1, None),
-    ] {
-        let from = term(alloc, start)?.expect(&rt, "this is a term");
-        let to = term(alloc, end)?.expect(&rt, "this is a term");
-        let wanted = (to, steps, past);
-        let is_right = is_answered(alloc, &regular, &mut symbols, from, wanted)?;
-        assert!(rt; is_right, "{start}");
-    }
+    ];
+    let Some(regular) = admitted(alloc, &sides)? else {
+        panic!(rt; "these are not regular");
+    };
+    assert_eq!(rt; first_wrong(alloc, &regular, &rows)?, None);
     Ok(())
 }
