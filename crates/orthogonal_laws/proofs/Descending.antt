@@ -10,7 +10,7 @@ use Rattle.eq_base.specs.declared.head.Head.{Head}
 use Rattle.eq_base.specs.declared.rules.Equation.{Equation}
 use Rattle.eq_base.proofs.Instances.{fits_from_instance}
 use Rattle.orthogonal_laws.specs.Matching.{IsLastFailure}
-use Rattle.orthogonal_laws.specs.Next.{IsArgumentToward}
+use Rattle.orthogonal_laws.specs.Demanded.{IsArgumentToward}
 use Rattle.orthogonal_laws.specs.Operations.{Values}
 use Rattle.orthogonal_laws.specs.Orthogonal.{IsWellFormedSystem, IsOrthogonal}
 use Rattle.orthogonal_laws.specs.Strategy.{HasNoDemandedRedex}

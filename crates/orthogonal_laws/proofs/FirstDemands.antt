@@ -6,8 +6,8 @@ use Rattle.eq_base.specs.Rewriting.{System, IsRedex, IsNormal}
 use Rattle.eq_base.proofs.Positions.{subtree_at-nth_position}
 use Rattle.eq_base.proofs.Replacing.{number-nth_position}
 use Rattle.orthogonal_laws.specs.declared.demand.Fit.{Fit}
-use Rattle.orthogonal_laws.specs.Looking.{IsFirstFit}
-use Rattle.orthogonal_laws.specs.Next.{IsDemandedFit, IsNextRedex}
+use Rattle.orthogonal_laws.specs.Next.{IsFirstFit, IsNextRedex}
+use Rattle.orthogonal_laws.specs.Demanded.{IsDemandedFit}
 use Rattle.orthogonal_laws.specs.Orthogonal.{IsWellFormedSystem, IsOrthogonal}
 use Rattle.orthogonal_laws.specs.Strategy.{IsDemandedRedex, HasNoDemandedRedex, none_demanded, IsNext}
 use Rattle.orthogonal_laws.proofs.LeftSides.{Compiled}

@@ -16,7 +16,7 @@ use Rattle.symbol_table.proofs.Numberings.{read_apart}
 use Rattle.builtin.specs.Values.{AreToldApart, value_by}
 use Rattle.builtin.specs.declared.value.Operand.{Operand}
 use Rattle.builtin.specs.declared.value.Operand.TheVariants as operand
-use Rattle.orthogonal_laws.specs.Operations.{HasNumberOf}
+use Rattle.orthogonal_laws.specs.Results.{HasNumberOf}
 use Rattle.orthogonal_laws.proofs.Applications.{Applied, to_one, to_two}
 
 -- ---- live nodes

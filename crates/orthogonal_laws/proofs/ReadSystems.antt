@@ -18,8 +18,9 @@ use Rattle.symbol_table.proofs.Numberings.{read_all, head_for, read-head_for, cl
 use Rattle.sequentiality.specs.Regular.{AreRegular}
 use Rattle.orthogonal_laws.specs.Orthogonal.{IsWellFormedSystem, IsOrthogonal, IsLawful}
 use Rattle.orthogonal_laws.specs.Readings.{AreRegularIn}
-use Rattle.orthogonal_laws.specs.Operations.{AreValuesBy}
-use Rattle.orthogonal_laws.specs.Next.{IsNextRedex, IsNextBy}
+use Rattle.orthogonal_laws.specs.Results.{AreValuesBy}
+use Rattle.orthogonal_laws.specs.Next.{IsNextRedex}
+use Rattle.orthogonal_laws.specs.Demanded.{IsNextBy}
 use Rattle.orthogonal_laws.specs.declared.next.Next.{Next}
 use Rattle.orthogonal_laws.specs.declared.next.Next.TheVariants.{Redex, Normal}
 use Rattle.orthogonal_laws.proofs.FirstDemands.{next_is_one, next_from_one}

@@ -5,7 +5,7 @@ use Rattle.eq_base.specs.Storing.{first_trees}
 use Rattle.eq_base.specs.declared.head.Head.{Head}
 use Rattle.eq_base.specs.declared.rules.Equation.{Equation}
 use Rattle.orthogonal_laws.specs.Matching.{IsLastFailure}
-use Rattle.orthogonal_laws.specs.Next.{IsArgumentToward}
+use Rattle.orthogonal_laws.specs.Demanded.{IsArgumentToward}
 use Rattle.orthogonal_laws.specs.Operations.{Values}
 use Rattle.eq_base.specs.Rules.{system_of}
 use Rattle.orthogonal_laws.specs.Orthogonal.{IsWellFormedSystem, IsOrthogonal}

@@ -7,8 +7,7 @@ use Rattle.eq_base.proofs.Trees.{size-map_heads, nth_subtree-map_heads}
 use Rattle.eq_base.proofs.Mapped.{subtree_at-map, subtree_at-unmap, map-back, nth_position-map}
 use Rattle.orthogonal_laws.specs.Orthogonal.{IsWellFormedSystem, IsOrthogonal}
 use Rattle.orthogonal_laws.specs.Strategy.{IsDemanded, IsDemandedRedex, at_root, at_demanded, HasNoDemandedRedex, none_demanded, IsNext, demanded, in_argument, HasNoNext, none_next}
-use Rattle.orthogonal_laws.specs.Looking.{IsFirstFit}
-use Rattle.orthogonal_laws.specs.Next.{IsNextRedex}
+use Rattle.orthogonal_laws.specs.Next.{IsFirstFit, IsNextRedex}
 use Rattle.orthogonal_laws.proofs.Images.{IsImage, redex_by-image, redex-image, demanded-image, orthogonal-back, well_formed-back}
 use Rattle.orthogonal_laws.proofs.Deciding.{no_next_redex-normal, normal-no_next_redex}
 use Rattle.orthogonal_laws.proofs.NextLaws.{next_one, next_not_normal, normal_or_next_redex}

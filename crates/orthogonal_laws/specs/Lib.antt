@@ -1,4 +1,5 @@
 pub mod Next
+pub mod Demanded
 pub mod Run
 pub mod Past
 pub mod Stepping
@@ -11,4 +12,5 @@ pub mod Development
 pub mod Convertible
 pub mod Addition
 pub mod Operations
+pub mod Results
 pub mod Readings

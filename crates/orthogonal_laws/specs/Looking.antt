@@ -1,19 +1,13 @@
--- What the left sides come to at a node of a term.
+-- Words of private functions alone: what the left sides come to at a node of a term.
 use Rattle.std.specs.Prelude.{◌≡◌, ℕ, ◌<◌, ◌≤◌, ◌-◌, List, Some, slice_get}
 use Rattle.eq_base.specs.Tree.{Tree, nth_subtree}
 use Rattle.eq_base.specs.Pattern.{IsInstanceOf}
 use Rattle.eq_base.specs.Meeting.{in_symbol_class}
-use Rattle.eq_base.specs.Rewriting.{System, IsRedexBy, IsFirst}
 use Rattle.eq_base.specs.declared.head.Head.{Head}
 use Rattle.eq_base.specs.declared.rules.Equation.{Equation}
 use Rattle.orthogonal_laws.specs.Matching.{IsLastFailure}
 use Rattle.orthogonal_laws.specs.declared.matching.Look.{Look}
 use Rattle.orthogonal_laws.specs.declared.matching.Look.TheVariants.{Meets, Fails}
-
--- the rule with this number is the first that fits the tree
-pub record IsFirstFit {H : Type 0} (system : System H) (number : ℕ) (t : Tree H) : Type 0 where
-  pub redex : IsRedexBy system number t
-  pub first : IsFirst system number t
 
 -- the equation with this number is the first whose left side the tree meets
 pub record IsFirstMet (equations : List Equation) (number : ℕ) (t : Tree Head) : Type 0 where

@@ -1,4 +1,4 @@
--- When a left side is met by a tree, and where it is first not met.
+-- Words of private functions alone: when a left side is met by a tree, and where it is first not met.
 use Rattle.std.specs.Prelude.{◌≡◌, ◌⊎◌, ℕ, suc, ◌+◌, ◌≤◌, List, Some, slice_get}
 use Rattle.eq_base.specs.Tree.{Tree, Forest, node, empty, grow, head_of, arity_of, count, size}
 use Rattle.eq_base.specs.Pattern.{PatternCell, fixed, variable, restricted, Classes, IsConstantOf}

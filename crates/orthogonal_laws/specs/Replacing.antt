@@ -1,4 +1,4 @@
--- A term after a root step at a node.
+-- Words of private functions alone: a term after a root step at a node.
 use Rattle.std.specs.Prelude.{◌≡◌, ℕ, List, ◌++◌, Contains}
 use Rattle.std.specs.List.{AllByRecursion}
 use Rattle.eq_base.specs.Tree.{Tree, cells}

@@ -13,10 +13,11 @@ ghost use Rattle.eq_base.specs.Rules.{system_of};
 ghost use Rattle.symbol_table.specs.Table.{HasOneNumberEach};
 ghost use Rattle.symbol_table.specs.Reading.{IsLiveTerm};
 ghost use Rattle.sequentiality.specs.Regular.{AreRegular};
-ghost use Rattle.orthogonal_laws.specs.Operations.{Values, AreValuesBy};
+ghost use Rattle.orthogonal_laws.specs.Operations.{Values};
+ghost use Rattle.orthogonal_laws.specs.Results.{AreValuesBy};
 ghost use Rattle.orthogonal_laws.specs.Strategy.{HasNoDemandedRedex};
 ghost use Rattle.orthogonal_laws.specs.Looking.{IsLook};
-ghost use Rattle.orthogonal_laws.specs.Next.{IsDemandedFit, IsArgumentToward};
+ghost use Rattle.orthogonal_laws.specs.Demanded.{IsDemandedFit, IsArgumentToward};
 
 use crate::matching::{Look, look_at};
 use crate::values::has_result;

@@ -5,8 +5,10 @@ ghost use Rattle.eq_base.specs.Rules.{system_of};
 ghost use Rattle.symbol_table.specs.Table.{HasOneNumberEach};
 ghost use Rattle.symbol_table.specs.Reading.{read, read_system, AreLive, IsLiveTerm};
 ghost use Rattle.sequentiality.specs.Regular.{AreRegular};
-ghost use Rattle.orthogonal_laws.specs.Operations.{Values, AreValuesBy};
-ghost use Rattle.orthogonal_laws.specs.Next.{IsNextRedex, IsNextBy};
+ghost use Rattle.orthogonal_laws.specs.Operations.{Values};
+ghost use Rattle.orthogonal_laws.specs.Results.{AreValuesBy};
+ghost use Rattle.orthogonal_laws.specs.Next.{IsNextRedex};
+ghost use Rattle.orthogonal_laws.specs.Demanded.{IsNextBy};
 
 use crate::demand::{argument_toward, demanded_redex, last_failure};
 use eq_base::{Flat, Rules};

@@ -9,7 +9,7 @@ ghost use Rattle.builtin.specs.Values.{IsRead, IsValue};
 ghost use Rattle.symbol_table.specs.Table.{HasOneNumberEach};
 ghost use Rattle.symbol_table.specs.Reading.{read_head, read, IsLiveTerm};
 ghost use Rattle.regularity.specs.WellFormed.{IsApplicationOf};
-ghost use Rattle.orthogonal_laws.specs.Operations.{HasResult, HasNumberOf};
+ghost use Rattle.orthogonal_laws.specs.Results.{HasResult, HasNumberOf};
 
 use builtin::{Operand, Value, evaluate};
 use eq_base::{Equation, Flat, Head, Op, Right};

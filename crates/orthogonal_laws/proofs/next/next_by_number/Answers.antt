@@ -1,7 +1,8 @@
 use Rattle.std.proofs.Common.{◌≡◌, ℕ, ◌+◌, ◌-◌, ◌<◌, ◌≤◌, arith, below_more, sym}
 use Rattle.eq_base.specs.Tree.{nth_subtree}
 use Rattle.eq_base.specs.Rules.{system_of}
-use Rattle.orthogonal_laws.specs.Operations.{Values, AreValuesBy}
+use Rattle.orthogonal_laws.specs.Operations.{Values}
+use Rattle.orthogonal_laws.specs.Results.{AreValuesBy}
 use Rattle.orthogonal_laws.specs.Orthogonal.{IsWellFormedSystem, IsOrthogonal}
 use Rattle.orthogonal_laws.proofs.RegularLists.{regular_well_formed, regular_orthogonal}
 use Rattle.orthogonal_laws.proofs.ReadSystems.{number_values, number_values_by}

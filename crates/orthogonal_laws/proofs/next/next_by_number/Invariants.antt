@@ -1,7 +1,8 @@
 use Rattle.std.proofs.Common.{ℕ, ◌<◌, ◌≤◌, ◌-◌}
 use Rattle.eq_base.specs.Tree.{size, nth_subtree}
 use Rattle.eq_base.specs.Rules.{system_of}
-use Rattle.orthogonal_laws.specs.Operations.{Values, AreValuesBy}
+use Rattle.orthogonal_laws.specs.Operations.{Values}
+use Rattle.orthogonal_laws.specs.Results.{AreValuesBy}
 use Rattle.orthogonal_laws.specs.Orthogonal.{IsWellFormedSystem, IsOrthogonal}
 use Rattle.orthogonal_laws.specs.Strategy.{HasNoDemandedRedex}
 use Rattle.orthogonal_laws.proofs.Resting.{IsResting}

@@ -1,5 +1,5 @@
 use Rattle.std.proofs.Common.{subst}
-use Rattle.orthogonal_laws.specs.Next.{IsNextBy}
+use Rattle.orthogonal_laws.specs.Demanded.{IsNextBy}
 use Rattle.orthogonal_laws.proofs.ReadSystems.{number_values, number_system, number_values_by, exactly_redex, exactly_normal}
 use Rattle.orthogonal_laws.proofs.next.plain_next.Goals as goal
 

@@ -8,7 +8,7 @@ use Rattle.symbol_table.specs.Reading.{read_head, read, IsLiveHead}
 use Rattle.builtin.specs.Values.{IsRead, AreToldApart, IsValue}
 use Rattle.builtin.specs.declared.value.Operand.{Operand}
 use Rattle.builtin.specs.declared.value.Operand.TheVariants as operand
-use Rattle.orthogonal_laws.specs.Operations.{HasNumberOf}
+use Rattle.orthogonal_laws.specs.Results.{HasNumberOf}
 use Rattle.orthogonal_laws.proofs.Applications.{to_one, to_two, applied}
 use Rattle.orthogonal_laws.proofs.OperandsRead.{live_at, live_head, told_apart, told_other, value_of_two, value_of_one, second_within, first_within, first_of_one, first_of_two, second_of_two}
 use Rattle.orthogonal_laws.proofs.values.value_at.Goals as goal
