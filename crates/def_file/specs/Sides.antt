@@ -1,6 +1,7 @@
 -- The equations of a file, once its names are known, and what is wrong with their sides.
 use Rattle.std.specs.Prelude.{◌≡◌, ℕ, ◌+◌, ◌<◌, ◌≤◌, ◌⊎◌, List, [], ◌∷◌, ◌++◌, map, Option, Some, None}
 use Rattle.std.specs.List.{flat_map}
+use Rattle.eq_base.specs.Limits.{most_equations, most_left_cells, most_right_cells}
 use Rattle.eq_base.specs.Tree.{Tree, node, size}
 use Rattle.eq_base.specs.Pattern.{PatternCell, fixed}
 use Rattle.eq_base.specs.ReadHead.{ReadHead, symbol}
@@ -34,8 +35,9 @@ pub data Limit : Type 0 where
 -- the limits of an equation in the order in which they are looked at, where so many stand before it
 abbrev pub limits_of : ℕ → Sides → List Limit
 limits_of before sides =
-    Equations before sides.left ∷ Application sides.left ∷ Cells 255 sides.left ∷ Cells 65535 sides.right
-    ∷ map (Cells 255) (flat_map alternatives_of sides.conditions)
+    Equations before sides.left ∷ Application sides.left
+    ∷ Cells most_left_cells sides.left ∷ Cells most_right_cells sides.right
+    ∷ map (Cells most_left_cells) (flat_map alternatives_of sides.conditions)
 
 -- the limits of one equation after another
 abbrev pub all_limits : ℕ → List Sides → List Limit
@@ -54,7 +56,7 @@ module _ (notation : Notation) (text : List ℕ) (known : Known) where
 
   -- the limit is kept
   abbrev pub KeepsLimit : Limit → Type 0
-  KeepsLimit (Equations before byte) = before < 2048
+  KeepsLimit (Equations before byte) = before < most_equations
   KeepsLimit (Application byte) = (pattern : Tree (PatternCell ReadHead)) × IsPattern byte pattern
       × IsSymbolApplied pattern
   KeepsLimit (Cells most byte) = (pattern : Tree (PatternCell ReadHead)) × IsPattern byte pattern
@@ -62,7 +64,7 @@ module _ (notation : Notation) (text : List ℕ) (known : Known) where
 
   -- the limit is passed
   abbrev pub Passes : Limit → Fault → Type 0
-  Passes (Equations before byte) fault = (2048 ≤ before)
+  Passes (Equations before byte) fault = (most_equations ≤ before)
       × (fault ≡ record { kind = EquationsPast; byte = byte })
   Passes (Application byte) fault = (pattern : Tree (PatternCell ReadHead)) × IsPattern byte pattern
       × (¬ IsSymbolApplied pattern) × (fault ≡ record { kind = LeftNotApplication; byte = byte })

@@ -1,6 +1,7 @@
 // What is wrong with the sides of an equation.
 ghost use Rattle.std.specs.Prelude.{◌≡◌, ◌↔◌, ℕ, List, ◌∷◌, [], map, IsTrue};
 ghost use Rattle.std.specs.List.{flat_map};
+ghost use Rattle.eq_base.specs.Limits.{most_left_cells};
 ghost use Rattle.symbol_table.specs.Table.{Table};
 ghost use Rattle.def_file.specs.Views.{condition, restriction, sides};
 ghost use Rattle.def_file.specs.Names.{Known};
@@ -15,17 +16,8 @@ ghost use Rattle.def_file.specs.Notations.{notation_of};
 use super::conditions::{Choice, TakenCondition};
 use super::items::TakenEquation;
 use crate::tree::{Condition, Restriction, Sides};
-use eq_base::{Cell, Head, Pattern};
+use eq_base::{Cell, Head, MOST_EQUATIONS, MOST_LEFT_CELLS, MOST_RIGHT_CELLS, Pattern};
 use term_lex::{Fault, FaultKind};
-
-/// The most equations of a file.
-const EQUATIONS: usize = 2048;
-
-/// The most cells of a left side or an alternative.
-const LEFT_CELLS: usize = 255;
-
-/// The most cells of a right side.
-const RIGHT_CELLS: usize = 65_535;
 
 /// Whether a symbol stands at the root.
 fn is_application(pattern: &Pattern) -> bool
@@ -41,13 +33,13 @@ fn is_application(pattern: &Pattern) -> bool
 fn alternatives_fault(terms: &[usize], patterns: &[Pattern]) -> Option<Fault>
     ensures { (syntax : SyntaxValue) (text : List ℕ) (known : Known) (table : Table)
         → AreRelated (IsSideTaken (notation_of syntax) text known table) terms.now patterns.now
-        → AnswersLimits (notation_of syntax) text known (map (Cells 255) terms.now) result }
+        → AnswersLimits (notation_of syntax) text known (map (Cells most_left_cells) terms.now) result }
 {
     for (i, byte) in terms.iter().enumerate() {
         let Some(pattern) = patterns.get(i) else {
             return None;
         };
-        if pattern.len() > LEFT_CELLS {
+        if pattern.len() > MOST_LEFT_CELLS {
             return Some(Fault {
                 kind: FaultKind::SideLong,
                 byte: *byte,
@@ -62,7 +54,7 @@ fn choice_fault(written: &Restriction, taken: &Choice) -> Option<Fault>
     ensures { (syntax : SyntaxValue) (text : List ℕ) (known : Known) (table : Table)
         → TakesChoice (notation_of syntax) text known table (restriction written.now) taken.now
         → AnswersLimits (notation_of syntax) text known
-        (map (Cells 255) (alternatives_in (restriction written.now))) result }
+        (map (Cells most_left_cells) (alternatives_in (restriction written.now))) result }
 {
     match (written, taken) {
         (Restriction::OneOf(terms), Choice::OneOf(patterns)) => alternatives_fault(terms, patterns),
@@ -77,7 +69,7 @@ fn conditions_fault(conditions: &[Condition], taken: &[TakenCondition]) -> Optio
         (λ (c : WrittenCondition) (t : TakenValue).
         TakesCondition (notation_of syntax) text known table c.variable c.restriction t)
         (map condition conditions.now) taken.now
-        → AnswersLimits (notation_of syntax) text known (map (Cells 255)
+        → AnswersLimits (notation_of syntax) text known (map (Cells most_left_cells)
         (flat_map alternatives_of (map condition conditions.now))) result }
 {
     for (i, written) in conditions.iter().enumerate() {
@@ -98,7 +90,7 @@ pub fn equation_fault(before: usize, written: &Sides, taken: &TakenEquation) -> 
         → TakesEquation (notation_of syntax) text known table (sides written.now) taken.now
         → AnswersLimits (notation_of syntax) text known (limits_of before (sides written.now)) result }
 {
-    if before >= EQUATIONS {
+    if before >= MOST_EQUATIONS {
         return Some(Fault {
             kind: FaultKind::EquationsPast,
             byte: written.left,
@@ -110,13 +102,13 @@ pub fn equation_fault(before: usize, written: &Sides, taken: &TakenEquation) -> 
             byte: written.left,
         });
     }
-    if taken.left.len() > LEFT_CELLS {
+    if taken.left.len() > MOST_LEFT_CELLS {
         return Some(Fault {
             kind: FaultKind::SideLong,
             byte: written.left,
         });
     }
-    if taken.right.len() > RIGHT_CELLS {
+    if taken.right.len() > MOST_RIGHT_CELLS {
         return Some(Fault {
             kind: FaultKind::SideLong,
             byte: written.right,

@@ -43,15 +43,15 @@ returns-then-not-is_application c = λ syntax text known table t.
     let left = read_pattern table c.args.taken.now.left in
     inr (omega arith, inl (left, t.left.means, is_none _ table c.args.taken.now.left c.is_application.ensures c.if-not-is_application.true, refl))
 
-pub returns-then-len-gt-LEFT_CELLS : goal.returns-then-len-gt-LEFT_CELLS
-returns-then-len-gt-LEFT_CELLS c = λ syntax text known table t.
+pub returns-then-len-gt-MOST_LEFT_CELLS : goal.returns-then-len-gt-MOST_LEFT_CELLS
+returns-then-len-gt-MOST_LEFT_CELLS c = λ syntax text known table t.
     let left = read_pattern table c.args.taken.now.left in
     let app = is_application _ table c.args.taken.now.left c.is_application.ensures c.if-not-is_application.false in
     let long : 255 < size left = omega (arith, size_read table c.args.taken.now.left) in
     inr (omega arith, inr ((left, t.left.means, app), inl (left, t.left.means, long, refl)))
 
-pub returns-then-len-gt-RIGHT_CELLS : goal.returns-then-len-gt-RIGHT_CELLS
-returns-then-len-gt-RIGHT_CELLS c = λ syntax text known table t.
+pub returns-then-len-gt-MOST_RIGHT_CELLS : goal.returns-then-len-gt-MOST_RIGHT_CELLS
+returns-then-len-gt-MOST_RIGHT_CELLS c = λ syntax text known table t.
     let left = read_pattern table c.args.taken.now.left in
     let right = read_pattern table c.args.taken.now.right in
     let app = is_application _ table c.args.taken.now.left c.is_application.ensures c.if-not-is_application.false in
