@@ -13,13 +13,6 @@ use Rattle.ei_program.specs.Lines.{ended}
 use Rattle.ei_program.specs.Answering.{LineLeft}
 use Rattle.ei_program.specs.Run.{TextLeft}
 
--- the first node of a tree is the tree
-pub first_node : (t : Tree Head) → tree_at (subtrees t) 0 ≡ t
-first_node (node h args) = refl
-
-pub some_node : (t : Tree Head) → 0 < length (subtrees t)
-some_node (node h args) = omega arith
-
 -- what the line of the one term leaves is what its text leaves
 pub line_is_text : (budget : ℕ) (d : Definitions) (text : List ℕ) (t : Tree ReadHead) (outcome : Outcome) (written : List ℕ) → Holds d.names text (t ∷ []) → LineLeft budget d t outcome written → TextLeft budget d text outcome written
 line_is_text budget d text t Answered written h l =

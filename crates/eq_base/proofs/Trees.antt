@@ -3,6 +3,8 @@ use Rattle.std.proofs.Common.{◌≡◌, ℕ, zero, suc, ◌+◌, ◌-◌, ◌<�
 use Rattle.std.proofs.lemmas.List.{append-nil, drop_at, drop-drop, drop-append-le, get_or-drop, get_or_append_left, get_or_default, get_or-append-add, length-drop, map-append, length-map, get_or-map, same_lists}
 use Rattle.std.proofs.lemmas.Bool.{cases_lt}
 use Rattle.eq_base.specs.Tree.{Tree, Forest, node, empty, grow, head_of, args_of, arity_of, count, size, total_size, subtrees, all_subtrees, nth_subtree, cells, all_cells, map_heads, map_all_heads, subtree_at, subtree_in}
+use Rattle.eq_base.specs.View.{tree_at}
+use Rattle.eq_base.specs.declared.head.Head.{Head}
 use Rattle.eq_base.specs.Storing.{first_trees, later_trees, first_or, first_size, forest_of, join, forest_of-cells-append}
 
 module _ {T : Type 0} where
@@ -22,6 +24,27 @@ module _ {T : Type 0} where
   count-later_trees zero ts = omega arith
   count-later_trees (suc n) empty = omega arith
   count-later_trees (suc n) (grow t ts) = omega (arith, count-later_trees n ts)
+
+  -- among no trees there is none
+  no_tree : (i : ℕ) (t : Tree T) → subtree_in empty i [] ≡ Some t → ⊥
+  no_tree i t is = cc
+
+  -- the trees from one of them on begin with it
+  pub later_trees-at : (i : ℕ) (ts : Forest T) (t : Tree T) → subtree_in ts i [] ≡ Some t → later_trees i ts ≡ grow t (later_trees (suc i) ts)
+  later_trees-at i empty t is = absurd (no_tree i t is)
+  later_trees-at zero (grow u us) t is = ap (λ x. grow x us) (cc)
+  later_trees-at (suc i) (grow u us) t is = later_trees-at i us t is
+
+  -- no tree stands behind the last
+  pub later_trees-count : (n : ℕ) (ts : Forest T) → n ≡ count ts → later_trees n ts ≡ empty
+  later_trees-count zero empty n = refl
+  later_trees-count zero (grow u us) n = absurd (omega arith)
+  later_trees-count (suc n) empty is = refl
+  later_trees-count (suc n) (grow u us) is = later_trees-count n us (omega arith)
+
+  -- an argument stands among the arguments
+  pub subtree_in-argument : (t : Tree T) (i : ℕ) (u : Tree T) → subtree_at t (i ∷ []) ≡ Some u → subtree_in (args_of t) i [] ≡ Some u
+  subtree_in-argument (node a args) i u is = is
 
   pub total_size-first_more : (n : ℕ) (ts : Forest T) → n < count ts → total_size (first_trees (n + 1) ts) ≡ total_size (first_trees n ts) + first_size (later_trees n ts)
   total_size-first_more zero empty h = absurd (omega arith)
@@ -254,3 +277,10 @@ module _ {A B : Type 0} (f : A → B) where
   nth_subtree-map_heads t k lt =
       let within : k < length (subtrees t) = omega (arith, length-subtrees t) in
       ap (λ l. get_or l k (map_heads f t)) (subtrees-map_heads t) ∙ get_or-map (map_heads f) (subtrees t) k t (map_heads f t) within
+
+-- the first node of a tree is the tree
+pub first_node : (t : Tree Head) → tree_at (subtrees t) 0 ≡ t
+first_node (node h args) = refl
+
+pub some_node : (t : Tree Head) → 0 < length (subtrees t)
+some_node (node h args) = omega arith

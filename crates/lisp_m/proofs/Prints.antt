@@ -5,9 +5,10 @@ use Rattle.eq_base.specs.Tree.{Tree, Forest, node, empty, grow, count, args_of, 
 use Rattle.eq_base.specs.Storing.{later_trees}
 use Rattle.eq_base.specs.View.{tree_at, IsArgument}
 use Rattle.eq_base.specs.declared.head.Head.{Head}
-use Rattle.eq_base.proofs.Trees.{count-map_all_heads}
+use Rattle.eq_base.proofs.Trees.{count-map_all_heads, later_trees-at, later_trees-count, subtree_in-argument}
 use Rattle.symbol_table.specs.Table.{Table, names_of}
 use Rattle.symbol_table.specs.Reading.{read_head, read, IsLiveHead, IsLiveTerm}
+use Rattle.symbol_table.proofs.LiveTerms.{live-argument}
 use Rattle.written_terms.specs.Printing.{head_text, text_in}
 use Rattle.lisp_m.specs.declared.write.Part.{Part}
 use Rattle.lisp_m.specs.declared.write.Part.TheVariants.{Element, End, Other}
@@ -16,35 +17,6 @@ use Rattle.lisp_m.specs.declared.write.Piece.TheVariants.{Term, Arguments, ListR
 use Rattle.lisp_m.specs.Printing.{choose, list_part, print, print_by, print_rest, in_brackets, in_list, behind_element, behind_semicolons}
 use Rattle.lisp_m.specs.Writing.{part_in, print_in, piece_text, IsNode, IsPiece, IsElement, WritesFront}
 
-module _ {A : Type 0} where
-  no_tree : (i : ℕ) (t : Tree A) → subtree_in empty i [] ≡ Some t → ⊥
-  no_tree i t is = cc
-
-  later_trees-at : (i : ℕ) (ts : Forest A) (t : Tree A) → subtree_in ts i [] ≡ Some t → later_trees i ts ≡ grow t (later_trees (suc i) ts)
-  later_trees-at i empty t is = absurd (no_tree i t is)
-  later_trees-at zero (grow u us) t is = ap (λ x. grow x us) (cc)
-  later_trees-at (suc i) (grow u us) t is = later_trees-at i us t is
-
-  later_trees-count : (n : ℕ) (ts : Forest A) → n ≡ count ts → later_trees n ts ≡ empty
-  later_trees-count zero empty n = refl
-  later_trees-count zero (grow u us) n = absurd (omega arith)
-  later_trees-count (suc n) empty is = refl
-  later_trees-count (suc n) (grow u us) is = later_trees-count n us (omega arith)
-
-subtree_at-argument : (t : Tree Head) (i : ℕ) (u : Tree Head) → subtree_at t (i ∷ []) ≡ Some u → subtree_in (args_of t) i [] ≡ Some u
-subtree_at-argument (node head args) i u is = is
-
-pub live-head : (table : Table) (t : Tree Head) → IsLiveTerm table t → IsLiveHead table (head_of t)
-live-head table (node head args) live = live.0
-
-live-among : (table : Table) (args : Forest Head) (i : ℕ) (t : Tree Head) → subtree_in args i [] ≡ Some t → AllHeadsIn (IsLiveHead table) args → IsLiveTerm table t
-live-among table empty i t is live = absurd (no_tree i t is)
-live-among table (grow u us) zero t is live = let same : u ≡ t = cc in subst (IsLiveTerm table) same live.0
-live-among table (grow u us) (suc i) t is live = live-among table us i t is live.1
-
-live-argument : (table : Table) (t : Tree Head) (i : ℕ) (u : Tree Head) → subtree_at t (i ∷ []) ≡ Some u → IsLiveTerm table t → IsLiveTerm table u
-live-argument table (node head args) i u is live = live-among table args i u is live.1
-
 -- ---- the prints, by what a term is in a list
 
 module _ (text_of : Head → List ℕ) (part_of : Head → ℕ → Part) where
@@ -52,8 +24,8 @@ module _ (text_of : Head → List ℕ) (part_of : Head → ℕ → Part) where
   part t = part_of (head_of t) (arity_of t)
 
   in_list-two : (args : Forest Head) (t u : Tree Head) → subtree_in args 0 [] ≡ Some t → subtree_in args 1 [] ≡ Some u → in_list text_of part_of args ≡ print_by text_of part_of t ++ print_rest text_of part_of u
-  in_list-two empty t u is other = absurd (no_tree 0 t is)
-  in_list-two (grow t' empty) t u is other = absurd (no_tree 0 u other)
+  in_list-two empty t u is other = cc
+  in_list-two (grow t' empty) t u is other = cc
   in_list-two (grow t' (grow u' more)) t u is other =
       let same : t' ≡ t = cc in
       let same' : u' ≡ u = cc in
@@ -158,7 +130,7 @@ module _ (table : Table) (trees : List (Tree Head)) where
   application_begins n m old mid new here is some argument head added =
       let t = tree_at trees n in
       let word = text_in table (head_of t) in
-      let first = subtree_at-argument t 0 (tree_at trees m) argument.stands in
+      let first = subtree_in-argument t 0 (tree_at trees m) argument.stands in
       goes_on old new _ (word ++ codes "[") (Term m) (Arguments n 1) (added ∙ ap (λ x. x ++ codes "[") head ∙ append_assoc old word (codes "["))
       (print-other (text_in table) (part_in table) t is ∙ ap (λ x. word ++ x) (brackets-first (text_in table) (part_in table) (args_of t) (tree_at trees m) first) ∙ sym (append_assoc word (codes "[") _))
       (omega (arith, length-append word (codes "[")))
@@ -174,7 +146,7 @@ module _ (table : Table) (trees : List (Tree Head)) where
       let t = tree_at trees n in
       let next : suc written ≡ written + 1 = omega arith in
       subst (λ k. WritesFront table trees old new (piece_text table trees (Arguments n written)) (Some (Term m, Arguments n k))) next
-      (goes_on old new _ (codes "; ") (Term m) (Arguments n (suc written)) added (semicolons-next (text_in table) (part_in table) (args_of t) written (tree_at trees m) (subtree_at-argument t written (tree_at trees m) argument.stands)) (omega arith) (argument_node n written m here argument) (here, omega arith))
+      (goes_on old new _ (codes "; ") (Term m) (Arguments n (suc written)) added (semicolons-next (text_in table) (part_in table) (args_of t) written (tree_at trees m) (subtree_in-argument t written (tree_at trees m) argument.stands)) (omega arith) (argument_node n written m here argument) (here, omega arith))
 
 -- ---- a print of other heads is a print by other texts and parts
 

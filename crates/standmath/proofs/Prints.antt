@@ -5,31 +5,15 @@ use Rattle.std.specs.Prelude.{codes}
 use Rattle.eq_base.specs.Tree.{Tree, Forest, node, empty, grow, count, args_of, arity_of, head_of, subtree_at, subtree_in, map_heads, map_all_heads, AllHeadsIn}
 use Rattle.eq_base.specs.Storing.{later_trees}
 use Rattle.eq_base.specs.declared.head.Head.{Head}
+use Rattle.eq_base.proofs.Trees.{later_trees-at, later_trees-count, subtree_in-argument}
 use Rattle.symbol_table.specs.Table.{Table, names_of}
 use Rattle.symbol_table.specs.Reading.{read_head, read, IsLiveHead, IsLiveTerm}
+use Rattle.symbol_table.proofs.LiveTerms.{live-argument}
 use Rattle.written_terms.specs.Printing.{head_text, text_in}
 use Rattle.standmath.specs.Printing.{print, print_by, in_brackets, behind_commas}
 use Rattle.standmath.specs.Writing.{text_before, text_end, text_behind, text_left, IsOpen, AreOpen}
 use Rattle.eq_base.specs.View.{tree_at, IsArgument}
 use Rattle.standmath.specs.declared.write.Open.{Open}
-
-module _ {A : Type 0} where
-  -- among no trees there is none
-  no_tree : (i : ℕ) (t : Tree A) → subtree_in empty i [] ≡ Some t → ⊥
-  no_tree i t is = cc
-
-  -- the trees from one of them on begin with it
-  later_trees-at : (i : ℕ) (ts : Forest A) (t : Tree A) → subtree_in ts i [] ≡ Some t → later_trees i ts ≡ grow t (later_trees (suc i) ts)
-  later_trees-at i empty t is = absurd (no_tree i t is)
-  later_trees-at zero (grow u us) t is = ap (λ x. grow x us) (cc)
-  later_trees-at (suc i) (grow u us) t is = later_trees-at i us t is
-
-  -- no tree stands behind the last
-  later_trees-count : (n : ℕ) (ts : Forest A) → n ≡ count ts → later_trees n ts ≡ empty
-  later_trees-count zero empty n = refl
-  later_trees-count zero (grow u us) n = absurd (omega arith)
-  later_trees-count (suc n) empty is = refl
-  later_trees-count (suc n) (grow u us) is = later_trees-count n us (omega arith)
 
 -- what stands behind all arguments
 pub text_behind-end : (text_of : Head → List ℕ) (args : Forest Head) (n : ℕ) → n ≡ count args → text_behind text_of args n ≡ text_end n
@@ -49,21 +33,6 @@ text_behind-next text_of args (suc i) t is =
 pub print-head : (text_of : Head → List ℕ) (t : Tree Head) → print_by text_of t ≡ text_of (head_of t) ++ text_behind text_of (args_of t) 0
 print-head text_of (node head args) = refl
 
-pub printable-head : (table : Table) (t : Tree Head) → IsLiveTerm table t → IsLiveHead table (head_of t)
-printable-head table (node head args) printable = printable.0
-
--- an argument of a term that can be printed can be printed
-printable-among : (table : Table) (args : Forest Head) (i : ℕ) (t : Tree Head) → subtree_in args i [] ≡ Some t → AllHeadsIn (IsLiveHead table) args → IsLiveTerm table t
-printable-among table empty i t is printable = absurd (no_tree i t is)
-printable-among table (grow u us) zero t is printable = let same : u ≡ t = cc in subst (IsLiveTerm table) same printable.0
-printable-among table (grow u us) (suc i) t is printable = printable-among table us i t is printable.1
-
-pub printable-argument : (table : Table) (t : Tree Head) (i : ℕ) (u : Tree Head) → subtree_at t (i ∷ []) ≡ Some u → IsLiveTerm table t → IsLiveTerm table u
-printable-argument table (node head args) i u is printable = printable-among table args i u is printable.1
-
-subtree_at-argument : (t : Tree Head) (i : ℕ) (u : Tree Head) → subtree_at t (i ∷ []) ≡ Some u → subtree_in (args_of t) i [] ≡ Some u
-subtree_at-argument (node head args) i u is = is
-
 module _ (text_of : Head → List ℕ) (trees : List (Tree Head)) where
   -- an application whose arguments are all written
   pub text_left-end : (n i : ℕ) (others : List Open) → i ≡ arity_of (tree_at trees n) → text_left text_of trees (record { node = n; written = i } ∷ others) ≡ text_end i ++ text_left text_of trees others
@@ -78,14 +47,14 @@ module _ (text_of : Head → List ℕ) (trees : List (Tree Head)) where
       let u = tree_at trees m in
       let behind = text_behind text_of (args_of t) (suc i) in
       ap (λ x. x ++ text_left text_of trees others)
-      (text_behind-next text_of (args_of t) i u (subtree_at-argument t i u is) ∙ ap (λ p. text_before i ++ p ++ behind) (print-head text_of u))
+      (text_behind-next text_of (args_of t) i u (subtree_in-argument t i u is) ∙ ap (λ p. text_before i ++ p ++ behind) (print-head text_of u))
       ∙ simp (append_assoc, add-one)
 
 module _ (table : Table) (trees : List (Tree Head)) where
   -- both applications are open
   pub both_open : (n i m : ℕ) (others : List Open) → IsOpen table trees (record { node = n; written = i }) → i ≢ arity_of (tree_at trees n) → IsArgument trees n i m → AreOpen table trees others → AreOpen table trees (record { node = m; written = 0 } ∷ record { node = n; written = i + 1 } ∷ others)
   both_open n i m others here more argument below = (
-    record { there = argument.there; written = omega arith; printable = printable-argument table (tree_at trees n) i (tree_at trees m) argument.stands here.printable },
+    record { there = argument.there; written = omega arith; printable = live-argument table (tree_at trees n) i (tree_at trees m) argument.stands here.printable },
     (record { there = here.there; written = let most = here.written in omega arith; printable = here.printable }, below),
   )
 

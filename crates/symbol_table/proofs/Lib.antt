@@ -7,3 +7,4 @@ pub mod Growing
 pub mod Keeping
 pub mod Numberings
 pub mod Rereading
+pub mod LiveTerms

@@ -7,7 +7,7 @@ use Rattle.symbol_table.specs.Reading.{read, IsLiveTerm}
 use Rattle.symbol_table.proofs.Keeping.{names_kept}
 use Rattle.standmath.specs.Printing.{print}
 use Rattle.orthogonal_laws.specs.Run.{IsLiveEnd}
-use Rattle.ei_program.proofs.Answering.{first_node, some_node}
+use Rattle.eq_base.proofs.Trees.{first_node, some_node}
 use Rattle.ei_program.proofs.Answers.{normal_line, spent_line}
 use Rattle.ei_program.proofs.answer.line_of.Goals as goal
 

@@ -1,5 +1,7 @@
-use Rattle.std.proofs.Common.{length, ap, arith}
+use Rattle.std.proofs.Common.{length, sym, ap, subst, arith}
+use Rattle.eq_base.proofs.Trees.{first_node, some_node}
 use Rattle.symbol_table.specs.Table.{Table}
+use Rattle.symbol_table.specs.Reading.{IsLiveTerm}
 use Rattle.symbol_table.proofs.Declarations.{length-declare}
 use Rattle.lisp_m.proofs.tests.prints.Goals as goal
 
@@ -11,3 +13,9 @@ declare-requires g c = omega (arith, c.loop-name.invariant, c.loop-name.auto.nam
 
 pub loop-name-preserved : goal.loop-name-preserved
 loop-name-preserved g c = omega (arith, length-declare _ _ _ _ _ c.declare.ensures.ok c.declare.ensures.err)
+
+pub write_term-requires-clause-node : goal.write_term-requires-clause-node
+write_term-requires-clause-node g c = some_node c.in_ok-term.term
+
+pub write_term-requires-clause-printable : goal.write_term-requires-clause-printable
+write_term-requires-clause-printable g c = subst (IsLiveTerm c.read_term.new.symbols) (sym (first_node c.in_ok-term.term)) c.in_ok-term.ensures.live

@@ -4,8 +4,9 @@ use Rattle.eq_base.specs.Tree.{head_of, arity_of}
 use Rattle.eq_base.specs.View.{tree_at, IsArgument}
 use Rattle.written_terms.specs.Printing.{text_in}
 use Rattle.symbol_table.specs.Reading.{IsLiveHead}
+use Rattle.symbol_table.proofs.LiveTerms.{live-head, live-argument}
 use Rattle.standmath.specs.Writing.{text_before, text_end, text_left, AreOpen}
-use Rattle.standmath.proofs.Prints.{text_left-end, text_left-argument, both_open, written-left, fewer_left, printable-head, printable-argument, reverse-two}
+use Rattle.standmath.proofs.Prints.{text_left-end, text_left-argument, both_open, written-left, fewer_left, reverse-two}
 use Rattle.standmath.proofs.write.write_next.Goals as goal
 use Rattle.standmath.proofs.write.write_next.Given.{Over}
 
@@ -26,8 +27,8 @@ pub write_head-requires : goal.write_head-requires
 write_head-requires g c =
     let trees = g.T.TermView.trees c.args.view.now in
     let argument = subst (λ i. IsArgument trees c.args.innermost.node i c.arg-argument.result) c.from.ensures c.arg-argument.ensures in
-    let printable = printable-argument c.args.symbols.now (tree_at trees c.args.innermost.node) c.args.innermost.written (tree_at trees c.arg-argument.result) argument.stands c.requires.here.printable in
-    subst (IsLiveHead c.args.symbols.now) (sym c.head.ensures) (printable-head c.args.symbols.now (tree_at trees c.arg-argument.result) printable)
+    let printable = live-argument c.args.symbols.now (tree_at trees c.args.innermost.node) c.args.innermost.written (tree_at trees c.arg-argument.result) argument.stands c.requires.here.printable in
+    subst (IsLiveHead c.args.symbols.now) (sym c.head.ensures) (live-head c.args.symbols.now (tree_at trees c.arg-argument.result) printable)
 
 module _ (g : Over) (c : goal.In_ok-push-2 g) where
   argument : IsArgument (g.T.TermView.trees c.args.view.now) c.args.innermost.node c.args.innermost.written c.arg-argument.result
