@@ -60,14 +60,20 @@ fn lists(rt: HostRuntime) {
 fn lists_without_nil(rt: HostRuntime) {
     let mut symbols = Symbols::new(rt.alloc());
     assert!(rt; symbols.declare(b"cons", 2).is_ok());
-    let variables = Variables::new(rt.alloc());
-    for (text, byte) in [(b"()".as_slice(), 0), (b" (cons[(); ()])", 1)] {
+    let mut variables = Variables::new(rt.alloc());
+    assert!(rt; variables.add(&symbols, b"x").is_ok());
+    for (text, want) in [
+        (b"()".as_slice(), refused(FaultKind::ListNeedsCons, 0)),
+        (b" (cons[(); ()])", refused(FaultKind::ListNeedsCons, 1)),
+        (b"cons[x; x] = (x)", Ok((3, 10))),
+    ] {
         let read = read_pattern(rt.alloc(), &mut symbols, &variables, text, 0);
-        assert!(rt;
-            read.map(|(pattern, end)| (pattern.len(), end))
-                == refused(FaultKind::ListNeedsCons, byte)
-        );
+        assert!(rt; read.map(|(pattern, end)| (pattern.len(), end)) == want);
     }
+    assert_eq!(rt;
+        skip_term(rt.alloc(), b"(q [] . \"a\") # no token", 0),
+        Ok(12)
+    );
 }
 
 #[test]
