@@ -41,7 +41,7 @@ fn qualifier_of(qualifiers: &Qualifiers, variable: u32) -> Option<usize>
     None
 }
 
-/// Settles the qualifier, if no alternative of it holds its own variable or one that is marks.
+/// Takes the qualifier's mark away, if no alternative of it holds its own variable or one with a marked qualifier.
 fn settle(qualifiers: &Qualifiers, number: usize, marks: &mut [bool])
     requires marks { length marks.old ≡ length qualifiers.now }
     requires patterns { ArePatterns qualifiers.now }
