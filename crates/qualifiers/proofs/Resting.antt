@@ -1,5 +1,5 @@
 -- Variables that rest do not depend on themselves.
-use Rattle.std.proofs.Common.{◌≡◌, ℕ, inr, Bool, true, false, List, set, get_or, length, Some, refl, sym, ap, ◌∙◌, subst, arith, ⊎_elim}
+use Rattle.std.proofs.Common.{◌≡◌, ℕ, inr, Bool, true, false, List, set, Some, refl, sym, ap, ◌∙◌, subst, ⊎_elim}
 use Rattle.std.specs.Prelude.{Contains, slice_get, slice_index_or}
 use Rattle.std.specs.List.{flat_map}
 use Rattle.std.proofs.lemmas.Bool.{cases_eq}

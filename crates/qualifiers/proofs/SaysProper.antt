@@ -1,5 +1,5 @@
 -- What a file says keeps what its expansion asks.
-use Rattle.std.proofs.Common.{◌≡◌, ℕ, ◌+◌, ◌<◌, ◌≤◌, ◌⊎◌, inl, inr, false, List, [], ◌∷◌, ◌++◌, map, Option, Some, None, refl, sym, ap, ◌∙◌, subst, arith, eq-eqb, ⊎_elim}
+use Rattle.std.proofs.Common.{◌≡◌, ℕ, ◌+◌, ◌<◌, ◌≤◌, false, List, [], ◌∷◌, ◌++◌, map, Option, Some, None, refl, sym, ap, ◌∙◌, subst, arith, eq-eqb, ⊎_elim}
 use Rattle.std.specs.Prelude.{Contains, nat_eq, slice_get}
 use Rattle.std.specs.List.{AllByRecursion, IsDistinct, flat_map}
 use Rattle.std.proofs.lemmas.Bool.{cases_eq, ne_eqb}
@@ -16,10 +16,10 @@ use Rattle.eq_base.proofs.Lists.{all_front, all_back, all_both, all_map}
 use Rattle.term_lex.specs.declared.token.Token.{Token}
 use Rattle.term_lex.specs.Lexemes.{Lexeme}
 use Rattle.symbol_table.specs.Table.{Table}
-use Rattle.written_terms.specs.Meaning.{MeansCell, MeansTree, MeanTrees}
+use Rattle.written_terms.specs.Meaning.{MeansTree, MeanTrees}
 use Rattle.def_file.specs.Operations.{operation_name, HasNeeds}
-use Rattle.def_file.specs.AsRead.{ReadQualifier, ReadEquation, Equation, Class, ReadNumbered, ReadDefinitions}
-use Rattle.def_file.specs.Trees.{Restriction, InClass, OneOf, Condition, Sides, EquationItem, Equates, IncludesOperations, File}
+use Rattle.def_file.specs.AsRead.{ReadQualifier, ReadEquation, ReadNumbered, ReadDefinitions}
+use Rattle.def_file.specs.Trees.{Restriction, InClass, OneOf, Condition, Sides, EquationItem, Equates, IncludesOperations}
 use Rattle.def_file.specs.Pairs.{AreRelated}
 use Rattle.def_file.specs.Names.{Place, Symbol, Variable, Term, Qualified, ClassOf, Operation, Known, nothing_known, token_bytes, Takes, TakesAll, symbol_places, restriction_places, condition_places, item_places, places_of}
 use Rattle.def_file.specs.Names as names
@@ -28,7 +28,7 @@ use Rattle.def_file.proofs.OneNaming.{one_operation}
 use Rattle.def_file.proofs.OneAnswer.{says_distinct}
 use Rattle.qualifiers.specs.Instances.{parts_of}
 use Rattle.qualifiers.specs.Classes.{HasClasses, HaveClasses, IsFree, IsProper, IsProperItem, AreAscending, AreProper}
-use Rattle.qualifiers.proofs.Members.{contains_none, contains_first, contains_later, contains_cases, map_contains, contains_map, all_of}
+use Rattle.qualifiers.proofs.Members.{contains_none, contains_cases, map_contains, contains_map, all_of}
 use Rattle.qualifiers.proofs.Theorem.{related_from}
 
 -- ---- patterns, whose variables stand with their classes

@@ -41,20 +41,6 @@ fn qualifier_of(qualifiers: &Qualifiers, variable: u32) -> Option<usize>
     None
 }
 
-/// Takes the qualifier's mark away, if no alternative of it holds its own variable or one with a marked qualifier.
-fn settle(qualifiers: &Qualifiers, number: usize, marks: &mut [bool])
-    requires marks { length marks.old ≡ length qualifiers.now }
-    requires patterns { ArePatterns qualifiers.now }
-    requires number { number < length qualifiers.now }
-    ensures { AreSettled qualifiers.now marks.old → AreSettled qualifiers.now marks.new }
-{
-    let qualifier = qualifiers.get(number);
-    if choices_lead(qualifiers, marks, qualifier.variable, &qualifier.choices) {
-        return;
-    }
-    marks[number] = false;
-}
-
 /// Lays the place behind this one on the way, and over it the first place of the qualifier of the variable here, if
 /// it was not met before; or tells that this one is behind the last alternative.
 fn go_on(
@@ -98,19 +84,18 @@ fn go_on(
     Ok(true)
 }
 
-/// Settles what can be settled among the qualifier and those that its alternatives lead to, the last ones first.
-fn settle_from(
+/// Adds the qualifier and those that its alternatives lead to, the last ones first, but for those that were met before.
+fn list_from(
     alloc: Global,
     qualifiers: &Qualifiers,
     start: usize,
     met: &mut [bool],
-    marks: &mut [bool],
+    order: &mut Vec<usize>,
 ) -> Result<(), NoMemory>
     requires met { length met.old ≡ length qualifiers.now }
-    requires marks { length marks.old ≡ length qualifiers.now }
-    requires patterns { ArePatterns qualifiers.now }
     requires start { start < length qualifiers.now }
-    ensures { OnOk result (AreSettled qualifiers.now marks.old → AreSettled qualifiers.now marks.new) }
+    requires order { All (λ i. i < length qualifiers.now) order.old.items }
+    ensures { OnOk result (All (λ i. i < length qualifiers.now) order.new.items) }
 {
     if met[start] {
         return Ok(());
@@ -123,23 +108,54 @@ fn settle_from(
             return Ok(());
         };
         if !go_on(qualifiers, place, met, &mut way)? {
-            settle(qualifiers, place.qualifier, marks);
+            order.push(place.qualifier)?;
         }
     }
     Ok(())
 }
 
-/// Which qualifiers stay marks. All others hold only variables that do not depend on themselves, nor lead on to such.
-/// Linear in the cells of the alternatives and in the qualifiers for each variable there; memory for a place each.
-pub fn unsettled(alloc: Global, qualifiers: &Qualifiers) -> Result<Vec<bool>, NoMemory>
-    requires { ArePatterns qualifiers.now }
+/// Numbers of qualifiers, each behind those that its alternatives lead to but for circles. Linear in the cells of the
+/// alternatives, and in the qualifiers for each variable there; memory for a place each.
+pub fn last_first(alloc: Global, qualifiers: &Qualifiers) -> Result<Vec<usize>, NoMemory>
+    ensures { IfOk result (λ order. All (λ i. i < length qualifiers.now) order.items) }
+{
+    let mut met = vec![in alloc; false; qualifiers.len()]?;
+    let mut order = Vec::new(alloc);
+    for start in 0..qualifiers.len() {
+        list_from(alloc, qualifiers, start, &mut met, &mut order)?;
+    }
+    Ok(order)
+}
+
+/// Takes the qualifier's mark away, if no alternative of it holds its own variable or one with a marked qualifier.
+fn settle(qualifiers: &Qualifiers, number: usize, marks: &mut [bool])
+    requires marks { length marks.old ≡ length qualifiers.now }
+    requires patterns { ArePatterns qualifiers.now }
+    requires number { number < length qualifiers.now }
+    ensures { AreSettled qualifiers.now marks.old → AreSettled qualifiers.now marks.new }
+{
+    let qualifier = qualifiers.get(number);
+    if choices_lead(qualifiers, marks, qualifier.variable, &qualifier.choices) {
+        return;
+    }
+    marks[number] = false;
+}
+
+/// Marks of the qualifiers that may lead to a circle. The alternatives of all others hold only variables that neither
+/// depend on themselves nor lead on to one that does.
+pub fn unsettled(
+    alloc: Global,
+    qualifiers: &Qualifiers,
+    order: &[usize],
+) -> Result<Vec<bool>, NoMemory>
+    requires patterns { ArePatterns qualifiers.now }
+    requires order { All (λ i. i < length qualifiers.now) order.now }
     ensures marks { IfOk result (λ marks. length marks.items ≡ length qualifiers.now) }
     ensures settled { IfOk result (λ marks. AreSettled qualifiers.now marks.items) }
 {
     let mut marks = vec![in alloc; true; qualifiers.len()]?;
-    let mut met = vec![in alloc; false; qualifiers.len()]?;
-    for start in 0..qualifiers.len() {
-        settle_from(alloc, qualifiers, start, &mut met, &mut marks)?;
+    for number in order {
+        settle(qualifiers, *number, &mut marks);
     }
     Ok(marks)
 }
