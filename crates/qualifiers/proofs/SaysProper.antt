@@ -16,6 +16,8 @@ use Rattle.eq_base.proofs.Lists.{all_front, all_back, all_both, all_map}
 use Rattle.term_lex.specs.declared.token.Token.{Token}
 use Rattle.term_lex.specs.Lexemes.{Lexeme}
 use Rattle.symbol_table.specs.Table.{Table}
+use Rattle.written_terms.specs.Notation.{Notation}
+use Rattle.written_terms.proofs.Notations.{IsLawful}
 use Rattle.written_terms.specs.Meaning.{MeansTree, MeanTrees}
 use Rattle.def_file.specs.Operations.{operation_name, HasNeeds}
 use Rattle.def_file.specs.AsRead.{ReadQualifier, ReadEquation, ReadNumbered, ReadDefinitions}
@@ -124,13 +126,13 @@ items_are : (is : List EquationItem) → AllByRecursion IsItemPlace (flat_map it
 items_are [] = tt
 items_are (i ∷ is) = all_both IsItemPlace (item_places i) (flat_map item_places is) (item_is i) (items_are is)
 
-module _ (text : List ℕ) where
-  takes_split : (xs ys : List Place) (old new : Known) → TakesAll text old (xs ++ ys) new → (mid : Known) × TakesAll text mid ys new
+module _ (notation : Notation) (text : List ℕ) where
+  takes_split : (xs ys : List Place) (old new : Known) → TakesAll notation text old (xs ++ ys) new → (mid : Known) × TakesAll notation text mid ys new
   takes_split [] ys old new all = (old, all)
   takes_split (x ∷ xs) ys old new (next, t, all) = takes_split xs ys next new all
 
   -- at the places of items the table stays
-  told : (p : Place) (old new : Known) → IsItemPlace p → Takes text old p new → (new.table ≡ old.table) × Tells text old.table p
+  told : (p : Place) (old new : Known) → IsItemPlace p → Takes notation text old p new → (new.table ≡ old.table) × Tells text old.table p
   told (Symbol name arity) old new is takes = absurd is
   told (names.Class name) old new is takes = absurd is
   told (Variable name) old new is takes = absurd is
@@ -139,7 +141,7 @@ module _ (text : List ℕ) where
   told (ClassOf name) old new is (class, named, has, e) = (ap (λ (k : Known). k.table) e, tt)
   told (Operation name) old new is (op, named, fresh, needs, e) = (ap (λ (k : Known). k.table) e, (op, named, needs))
 
-  all_told : (ps : List Place) (old new : Known) → AllByRecursion IsItemPlace ps → TakesAll text old ps new → (new.table ≡ old.table) × AllByRecursion (Tells text new.table) ps
+  all_told : (ps : List Place) (old new : Known) → AllByRecursion IsItemPlace ps → TakesAll notation text old ps new → (new.table ≡ old.table) × AllByRecursion (Tells text new.table) ps
   all_told [] old new are e = (ap (λ (k : Known). k.table) e, tt)
   all_told (p ∷ ps) old new are (next, takes, all) =
       let (kept, tells) = told p old next are.0 takes in
@@ -148,7 +150,7 @@ module _ (text : List ℕ) where
 
 -- ---- the numbers of items
 
-module _ (text : List ℕ) (known : Known) where
+module _ (notation : Notation) (text : List ℕ) (known : Known) where
   abbrev number_of : ReadNumbered → ℕ
   number_of n = n.number
 
@@ -158,7 +160,7 @@ module _ (text : List ℕ) (known : Known) where
   named_numbers number (name ∷ names) [] h = absurd h
   named_numbers number (name ∷ names) (n ∷ ns) ((op, named, e), h) = (ap number_of e, named_numbers number names ns h)
 
-  item_numbers : (number : ℕ) (i : EquationItem) (ns : List ReadNumbered) → MeansItem text known number i ns → AllByRecursion (λ (n : ReadNumbered). n.number ≡ number) ns
+  item_numbers : (number : ℕ) (i : EquationItem) (ns : List ReadNumbered) → MeansItem notation text known number i ns → AllByRecursion (λ (n : ReadNumbered). n.number ≡ number) ns
   item_numbers number (Equates sides) ns (w, means, e) = subst (AllByRecursion (λ (n : ReadNumbered). n.number ≡ number)) (sym e) (refl, tt)
   item_numbers number (IncludesOperations include names) ns means = named_numbers number names ns means
 
@@ -173,7 +175,7 @@ module _ (text : List ℕ) (known : Known) where
   lower number [] all = tt
   lower number (n ∷ ns) all = (let first = all.0 in omega arith, lower number ns all.1)
 
-  numbers_ascend : (number : ℕ) (is : List EquationItem) (ns : List ReadNumbered) → MeanItems text known number is ns → AllByRecursion (λ m. number ≤ m) (map number_of ns) × AreAscending (map number_of ns)
+  numbers_ascend : (number : ℕ) (is : List EquationItem) (ns : List ReadNumbered) → MeanItems notation text known number is ns → AllByRecursion (λ m. number ≤ m) (map number_of ns) × AreAscending (map number_of ns)
   numbers_ascend number [] ns e = subst (λ l. AllByRecursion (λ m. number ≤ m) (map number_of l) × AreAscending (map number_of l)) (sym e) (tt, tt)
   numbers_ascend number (i ∷ is) ns (front, back, split, here, rest) =
       let (above, up) = numbers_ascend (number + 1) is back rest in
@@ -182,7 +184,7 @@ module _ (text : List ℕ) (known : Known) where
 
 -- ---- the conditions of an equation
 
-module _ (text : List ℕ) (known : Known) where
+module _ (notation : Notation) (text : List ℕ) (known : Known) where
   abbrev bytes_of : Condition → List ℕ
   bytes_of c = token_bytes text c.variable
 
@@ -265,21 +267,21 @@ module _ (text : List ℕ) (known : Known) where
 
   module _ (classes : List (ℕ × ℕ)) where
     abbrev Means : Condition → ReadQualifier → Type 0
-    Means c q = MeansQualifier text known classes c q
+    Means c q = MeansQualifier notation text known classes c q
 
     abbrev IsWell : Tree (PatternCell ReadHead) → Type 0
     IsWell p = testing.IsPattern p × HasClasses (class_of classes) p
 
-    side_well : (byte : ℕ) (p : Tree (PatternCell ReadHead)) → MeansSide text known classes byte p → IsWell p
+    side_well : (byte : ℕ) (p : Tree (PatternCell ReadHead)) → MeansSide notation text known classes byte p → IsWell p
     side_well byte p (plain, (end, reads), e) = subst IsWell (sym e) (means_pattern classes known.table known.variables _ plain reads.means)
 
-    sides_well : (terms : List ℕ) (ps : List (Tree (PatternCell ReadHead))) → AreRelated (MeansSide text known classes) terms ps → AllByRecursion IsWell ps
+    sides_well : (terms : List ℕ) (ps : List (Tree (PatternCell ReadHead))) → AreRelated (MeansSide notation text known classes) terms ps → AllByRecursion IsWell ps
     sides_well [] [] h = tt
     sides_well [] (p ∷ ps) h = absurd h
     sides_well (t ∷ ts) [] h = absurd h
     sides_well (t ∷ ts) (p ∷ ps) (m, h) = (side_well t p m, sides_well ts ps h)
 
-    choices_well : (r : Restriction) (ps : List (Tree (PatternCell ReadHead))) → MeanChoices text known classes r ps → AllByRecursion IsWell ps
+    choices_well : (r : Restriction) (ps : List (Tree (PatternCell ReadHead))) → MeanChoices notation text known classes r ps → AllByRecursion IsWell ps
     choices_well (InClass name) ps e = subst (AllByRecursion IsWell) (sym e) tt
     choices_well (OneOf terms) ps h = sides_well terms ps h
 
@@ -312,7 +314,7 @@ module _ (text : List ℕ) (known : Known) where
       free_one : (c : Condition) → Contains cs c → (q : ReadQualifier) → Means c q → IsFree (class_of classes) q.variable q.choices
       free_one c listed q m = by_restriction c.restriction refl m.choices
         where
-          by_restriction : (r : Restriction) → c.restriction ≡ r → MeanChoices text known classes r q.choices → IsFree (class_of classes) q.variable q.choices
+          by_restriction : (r : Restriction) → c.restriction ≡ r → MeanChoices notation text known classes r q.choices → IsFree (class_of classes) q.variable q.choices
           by_restriction (InClass name) is e = subst (IsFree (class_of classes) q.variable) (sym e) tt
           by_restriction (OneOf terms) is h =
               free_by q.variable q.choices
@@ -328,7 +330,7 @@ module _ (text : List ℕ) (known : Known) where
           all_of (λ (q : ReadQualifier). IsFree (class_of classes) q.variable q.choices) qs
           (λ q listed. let (c, in_cs, m) = related_from Means cs qs h q listed in free_one c in_cs q m)
 
-  equation_proper : (sides : Sides) (w : ReadEquation) → AreApart [] sides.conditions → MeansEquation text known sides w → IsProper w
+  equation_proper : (sides : Sides) (w : ReadEquation) → AreApart [] sides.conditions → MeansEquation notation text known sides w → IsProper w
   equation_proper sides w apart m =
       let well : AllByRecursion (IsWell m.classes) (parts_of w) = (side_well m.classes sides.left w.left m.left, (side_well m.classes sides.right w.right m.right, alternatives_well m.classes sides.conditions w.qualifiers m.qualifiers)) in
       record {
@@ -354,13 +356,13 @@ module _ (text : List ℕ) (known : Known) where
     operations_proper number names ns h told,
   )
 
-  item_proper : (number : ℕ) (i : EquationItem) (ns : List ReadNumbered) → MeansItem text known number i ns → AllByRecursion (Tells text known.table) (item_places i) → AllByRecursion IsProperOne ns
+  item_proper : (number : ℕ) (i : EquationItem) (ns : List ReadNumbered) → MeansItem notation text known number i ns → AllByRecursion (Tells text known.table) (item_places i) → AllByRecursion IsProperOne ns
   item_proper number (Equates sides) ns (w, means, e) told =
       let proper : IsProper w = equation_proper sides w told.1.1 means in
       subst (AllByRecursion IsProperOne) (sym e) (proper, tt)
   item_proper number (IncludesOperations include names) ns means told = operations_proper number names ns means told
 
-  items_proper : (number : ℕ) (is : List EquationItem) (ns : List ReadNumbered) → MeanItems text known number is ns → AllByRecursion (Tells text known.table) (flat_map item_places is) → AllByRecursion IsProperOne ns
+  items_proper : (number : ℕ) (is : List EquationItem) (ns : List ReadNumbered) → MeanItems notation text known number is ns → AllByRecursion (Tells text known.table) (flat_map item_places is) → AllByRecursion IsProperOne ns
   items_proper number [] ns e told = subst (AllByRecursion IsProperOne) (sym e) tt
   items_proper number (i ∷ is) ns (front, back, split, here, rest) told =
       subst (AllByRecursion IsProperOne) (sym split)
@@ -369,14 +371,14 @@ module _ (text : List ℕ) (known : Known) where
       (items_proper (number + 1) is back rest (all_back (Tells text known.table) (item_places i) (flat_map item_places is) told)))
 
 -- what a text says is proper
-pub says_proper : (text : List ℕ) (d : ReadDefinitions) → Says text d → AreProper d
-says_proper text d s =
+pub says_proper : {notation : Notation} (laws : IsLawful notation) (text : List ℕ) (d : ReadDefinitions) → Says notation text d → AreProper d
+says_proper {notation = notation} laws text d s =
     let before = flat_map symbol_places s.file.symbols ++ map Variable s.file.variables in
     let behind = flat_map item_places s.file.items in
-    let (mid, takes) = takes_split text before behind nothing_known s.known s.names in
-    let told = (all_told text behind mid s.known (items_are s.file.items) takes).1 in
+    let (mid, takes) = takes_split notation text before behind nothing_known s.known s.names in
+    let told = (all_told notation text behind mid s.known (items_are s.file.items) takes).1 in
     record {
-      names = says_distinct text d s;
-      items = subst (λ (table : Table). AllByRecursion (λ (n : ReadNumbered). IsProperItem table n.item) d.items) (sym s.declared) (items_proper text s.known 1 s.file.items d.items s.items told);
-      numbers = (numbers_ascend text s.known 1 s.file.items d.items s.items).1;
+      names = says_distinct laws text d s;
+      items = subst (λ (table : Table). AllByRecursion (λ (n : ReadNumbered). IsProperItem table n.item) d.items) (sym s.declared) (items_proper notation text s.known 1 s.file.items d.items s.items told);
+      numbers = (numbers_ascend notation text s.known 1 s.file.items d.items s.items).1;
     }

@@ -84,7 +84,7 @@ fn go_on(
     Ok(true)
 }
 
-/// Adds the qualifier and those that its alternatives lead to, the last ones first, but for those that were met before.
+/// Adds the qualifier and those that its alternatives lead to, the last ones first, where they were not met before.
 fn list_from(
     alloc: Global,
     qualifiers: &Qualifiers,
