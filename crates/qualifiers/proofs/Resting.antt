@@ -4,16 +4,13 @@ use Rattle.std.specs.Prelude.{Contains, slice_get, slice_index_or}
 use Rattle.std.specs.List.{flat_map}
 use Rattle.std.proofs.lemmas.Bool.{cases_eq}
 use Rattle.std.proofs.lemmas.List.{get_or-set_other}
-use Rattle.std.proofs.lemmas.Option.{slice_get-get_or}
 use Rattle.eq_base.specs.Pattern.{variables}
-use Rattle.eq_base.specs.declared.head.Head.{Head}
 use Rattle.def_file.specs.declared.definitions.Qualifier.{Qualifier}
-use Rattle.def_file.specs.AsRead.{QualifierOf}
 use Rattle.qualifiers.specs.Replacing.{Chain, one, more}
 use Rattle.qualifiers.specs.Choices.{HasIn, DependsOn}
-use Rattle.qualifiers.specs.Held.{qualifier_held, qualifiers_held}
+use Rattle.qualifiers.specs.Held.{qualifiers_held}
 use Rattle.qualifiers.specs.Leading.{Marked, SomeLeads, Rests, rest, AreSettled}
-use Rattle.qualifiers.proofs.Members.{map_contains, contains_flat_map}
+use Rattle.qualifiers.proofs.Marking.{held_at}
 use Rattle.qualifiers.proofs.Dependence.{chain_then}
 
 module _ (qs : List Qualifier) where
@@ -23,13 +20,10 @@ module _ (qs : List Qualifier) where
     where
       each : (y : ℕ) → HasIn (qualifiers_held qs) x y → Rests qs y
       each y h =
-          let (q, (i, lt, is), same) = map_contains qualifier_held qs h.qualifier h.listed in
-          let at : slice_get qs i ≡ Some q = slice_get-get_or qs i q lt ∙ ap Some is in
-          let offered = subst (λ l. Contains l h.alternative) (sym (ap (λ (r : QualifierOf Head). r.choices) same)) h.offered in
-          let named = ap (λ (r : QualifierOf Head). r.variable) same ∙ h.named in
+          let (i, q, at, named, stands) = held_at qs x y h in
           let by_mark : (b : Bool) → slice_index_or marks i false ≡ b → Rests qs y = λ b. elim b as (λ v. slice_index_or marks i false ≡ v → Rests qs y) [
             | true ↦ λ marked. absurd (not (i, q, record { listed = at; marked = marked }, named))
-            | false ↦ λ closed. settled i q at closed y (contains_flat_map variables q.choices h.alternative y offered h.stands)
+            | false ↦ λ closed. settled i q at closed y stands
           ] in
           by_mark (slice_index_or marks i false) refl
 
