@@ -15,33 +15,49 @@ use Rattle.def_file.specs.declared.definitions.Numbered.{Numbered}
 use Rattle.def_file.specs.declared.definitions.Definitions.{Definitions}
 
 -- a qualified variable: its alternatives, of which a class has none, and the first byte of its name before `is`
-pub record ReadQualifier : Type 0 where
+pub record QualifierOf (H : Type 0) : Type 0 where
   pub variable : ℕ
-  pub choices : List (Tree (PatternCell ReadHead))
+  pub choices : List (Tree (PatternCell H))
   pub byte : ℕ
 
 -- a written equation, and its first byte
-pub record ReadEquation : Type 0 where
-  pub left : Tree (PatternCell ReadHead)
-  pub right : Tree (PatternCell ReadHead)
-  pub qualifiers : List ReadQualifier
+pub record EquationOf (H : Type 0) : Type 0 where
+  pub left : Tree (PatternCell H)
+  pub right : Tree (PatternCell H)
+  pub qualifiers : List (QualifierOf H)
   pub byte : ℕ
 
 -- an equation, or the equations of an operation, whose class is named at the byte
-pub data ReadItem : Type 0 where
-  Equation : ReadEquation → ReadItem
-  Class : (op : Op) (byte : ℕ) → ReadItem
+pub data ItemOf (H : Type 0) : Type 0 where
+  Equation : EquationOf H → ItemOf H
+  Class : (op : Op) (byte : ℕ) → ItemOf H
 
 -- an item, and the number of the written item that gives it
-pub record ReadNumbered : Type 0 where
-  pub item : ReadItem
+pub record NumberedOf (H : Type 0) : Type 0 where
+  pub item : ItemOf H
   pub number : ℕ
 
 -- what is declared and included, the variables by their numbers, and the items in their order
-pub record ReadDefinitions : Type 0 where
+pub record DefinitionsOf (H : Type 0) : Type 0 where
   pub names : Table
   pub variables : List (List ℕ)
-  pub items : List ReadNumbered
+  pub items : List (NumberedOf H)
+
+-- the same with heads as they are read
+abbrev pub ReadQualifier : Type 0
+ReadQualifier = QualifierOf ReadHead
+
+abbrev pub ReadEquation : Type 0
+ReadEquation = EquationOf ReadHead
+
+abbrev pub ReadItem : Type 0
+ReadItem = ItemOf ReadHead
+
+abbrev pub ReadNumbered : Type 0
+ReadNumbered = NumberedOf ReadHead
+
+abbrev pub ReadDefinitions : Type 0
+ReadDefinitions = DefinitionsOf ReadHead
 
 -- ---- as a table reads them
 
