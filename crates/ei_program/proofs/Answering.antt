@@ -1,9 +1,7 @@
 -- From the line of a text's one term to what the text's answering leaves.
-use Rattle.std.proofs.Common.{◌≡◌, ◌<◌, length, ℕ, List, [], ◌∷◌, refl, sym, ◌∙◌, append-nil, inl, inr, arith}
-use Rattle.eq_base.specs.Tree.{Tree, node, subtrees}
-use Rattle.eq_base.specs.View.{tree_at}
+use Rattle.std.proofs.Common.{ℕ, List, [], ◌∷◌, sym, ◌∙◌, append-nil, inl, inr}
+use Rattle.eq_base.specs.Tree.{Tree}
 use Rattle.eq_base.specs.ReadHead.{ReadHead}
-use Rattle.eq_base.specs.declared.head.Head.{Head}
 use Rattle.ei_program.specs.declared.stop.Stop.TheVariants.{NoMemory, ReadFailed, WriteFailed}
 use Rattle.ei_program.specs.declared.outcome.Outcome.{Outcome}
 use Rattle.ei_program.specs.declared.outcome.Outcome.TheVariants.{Answered, Questions, BadWords, FileRefused, Broken, TermRefused, Stopped}
@@ -14,7 +12,7 @@ use Rattle.ei_program.specs.Answering.{LineLeft}
 use Rattle.ei_program.specs.Run.{TextLeft}
 
 -- what the line of the one term leaves is what its text leaves
-pub line_is_text : (budget : ℕ) (d : Definitions) (text : List ℕ) (t : Tree ReadHead) (outcome : Outcome) (written : List ℕ) → Holds d.names text (t ∷ []) → LineLeft budget d t outcome written → TextLeft budget d text outcome written
+pub line_is_text : (budget : ℕ) (d : Definitions) (text : List ℕ) (t : Tree ReadHead) (outcome : Outcome) (written : List ℕ) → Holds d.syntax d.names text (t ∷ []) → LineLeft budget d t outcome written → TextLeft budget d text outcome written
 line_is_text budget d text t Answered written h l =
     (l.0 ∷ [], record { terms = t ∷ []; reads = h; fit = (l.1, tt) }, l.2 ∙ sym (append-nil (ended l.0)))
 line_is_text budget d text t Questions written h l =

@@ -7,7 +7,7 @@ use Rattle.eq_base.specs.declared.head.Head.{Head}
 use Rattle.symbol_table.specs.Table.{Table, HasOneNumberEach}
 use Rattle.symbol_table.specs.Reading.{read, read_system}
 use Rattle.eq_base.specs.ReadHead.{ReadHead}
-use Rattle.standmath.specs.Printing.{print}
+use Rattle.ei_program.specs.Printing.{print}
 use Rattle.orthogonal_laws.specs.Orthogonal.{IsLawful}
 use Rattle.orthogonal_laws.specs.Strategy.{PlainRun, HasLength}
 use Rattle.orthogonal_laws.specs.Run.{IsNormalEnd, IsSpentEnd, IsEnd}
@@ -24,7 +24,7 @@ use Rattle.ei_program.proofs.Holding.{system-held}
 
 module _ (d : Definitions) (lawful : IsLawful (system d)) (budget : ℕ) (t : Tree ReadHead) where
   -- a plain run that ends within the budget ends in the only normal form
-  pub normal_form : (form : Tree ReadHead) (steps : ℕ) → HasLength (system d) t steps form → steps ≤ budget → IsNormalForm budget d t (print d.names form)
+  pub normal_form : (form : Tree ReadHead) (steps : ℕ) → HasLength (system d) t steps form → steps ≤ budget → IsNormalForm budget d t (print d.syntax d.names form)
   normal_form form steps length within = record {
     form = form;
     derivable = (steps, run-derivation length.run);
@@ -58,7 +58,7 @@ module _ (l : Loaded) (ready : IsReady l) (one : HasOneNumberEach l.symbols) (bu
   lawful : IsLawful (system d)
   lawful = subst IsLawful (sym (system-held l)) (read_lawful l.symbols l.regular (record { regular = ready.regular; live = ready.live; distinct = one }))
 
-  pub normal_line : (form : Tree Head) (n : ℕ) → end ≡ Normal form n → IsNormalForm budget d (read l.symbols t) (print d.names (read new form))
+  pub normal_line : (form : Tree Head) (n : ℕ) → end ≡ Normal form n → IsNormalForm budget d (read l.symbols t) (print d.syntax d.names (read new form))
   normal_line form n is =
       let at_end : IsNormalEnd new end (read new form) n = subst (λ e. IsNormalEnd new e (read new form) n) (sym is) (refl, refl) in
       let run = (is_end.normal (read new form) n).0 at_end in

@@ -4,9 +4,10 @@ use Rattle.std.specs.List.{IsLastAndRest}
 use Rattle.std.specs.declared.alloc.Global.{Global}
 use Rattle.std.proofs.lemmas.List.{map-append}
 use Rattle.std.specs.Prelude.{codes, slice_index_or}
+use Rattle.ei_program.specs.declared.words.Mode.{Mode}
+use Rattle.ei_program.specs.declared.words.Mode.TheVariants.{Answer, Check}
 use Rattle.ei_program.specs.declared.words.Task.{Task}
-use Rattle.ei_program.specs.declared.words.Task.TheVariants.{Answer, Check}
-use Rattle.ei_program.specs.Words.{IsFileName, IsTask, Asks, IsCommandLine}
+use Rattle.ei_program.specs.Words.{IsFileName, IsMode, IsTask, Asks, IsCommandLine}
 
 -- a list has one last element, and one front
 pub one_last : {A : Type 0} (xs ys : List A) (x y : A) → xs ++ x ∷ [] ≡ ys ++ y ∷ [] → (xs ≡ ys) × (x ≡ y)
@@ -53,7 +54,7 @@ first_word : (option word : List ℕ) → option ∷ [] ≡ word ∷ [] → opti
 first_word option word is = ap (λ (words : List (List ℕ)). slice_index_or words 0 []) is
 
 -- a word that is neither option asks for nothing
-pub no_option : (option : List ℕ) → ((digits : List ℕ) → option ≡ codes "--replacements=" ++ digits → ⊥) → (option ≡ codes "--check" → ⊥) → (task : Task) → IsTask (option ∷ []) task → ⊥
+pub no_option : (option : List ℕ) → ((digits : List ℕ) → option ≡ codes "--replacements=" ++ digits → ⊥) → (option ≡ codes "--check" → ⊥) → (mode : Mode) → IsMode (option ∷ []) mode → ⊥
 no_option option no_number no_check (Answer budget) (inl is) = let none = is.0 in cc
 no_option option no_number no_check (Answer budget) (inr (digits, is, fits)) = no_number digits (first_word option (codes "--replacements=" ++ digits) is)
 no_option option no_number no_check Check is = no_check (first_word option (codes "--check") is)

@@ -44,7 +44,7 @@ module _ (budget : ℕ) (d : Definitions) (input : List ℕ) (left : Option (Lis
   whole_left : taken ≡ input → length input ≤ 2 ^ 24 → left ≡ Some [] → (outcome : Outcome) (written : List ℕ) → TextLeft budget d taken outcome written → InputLeft budget d input left outcome written
   whole_left all short end Answered written t = (end, short, subst (λ text. TextLeft budget d text Answered written) all t)
   whole_left all short end Questions written t = (end, short, subst (λ text. TextLeft budget d text Questions written) all t)
-  whole_left all short end (TermRefused fault) written t = (inr (short, subst (λ text. HasInputFault d.names text fault) all t.0), t.1)
+  whole_left all short end (TermRefused fault) written t = (inr (short, subst (λ text. HasInputFault d.syntax d.names text fault) all t.0), t.1)
   whole_left all short end BadWords written t = absurd t
   whole_left all short end (FileRefused fault) written t = absurd t
   whole_left all short end (Broken breaks rules) written t = absurd t

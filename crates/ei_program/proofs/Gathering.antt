@@ -14,6 +14,7 @@ use Rattle.eq_base.specs.declared.rules.Right.{Right}
 use Rattle.eq_base.specs.declared.rules.Right.TheVariants as rights
 use Rattle.eq_base.proofs.Lists.{all_at, all_both, all_contained}
 use Rattle.eq_base.proofs.Trees.{size-map_heads}
+use Rattle.term_lex.specs.declared.syntax.Syntax.{Syntax}
 use Rattle.symbol_table.specs.Table.{Table, names_of}
 use Rattle.symbol_table.specs.Reading.{read_head, IsLiveEquation, AreLive}
 use Rattle.regularity.specs.WellFormed.{right_size}
@@ -100,7 +101,7 @@ module _ (table : Table) where
 
 -- ---- what a file says, taken as equations
 
-module _ (d : FileDefinitions) (rules : List Equation) (is : rules ≡ numbered_equations d.items) where
+module _ (syntax : Syntax) (d : FileDefinitions) (rules : List Equation) (is : rules ≡ numbered_equations d.items) where
   abbrev table : Table
   table = d.symbols
 
@@ -108,8 +109,8 @@ module _ (d : FileDefinitions) (rules : List Equation) (is : rules ≡ numbered_
   rules-read : map (file_equation table) rules ≡ file_equations (map (numbered_read table) d.items)
   rules-read = ap (map (file_equation table)) is ∙ equations-read table d.items
 
-  pub gathered : definitions_in (record { symbols = d.symbols; variables = d.variables; rules = rules }) ≡ as_equations (definitions_read d)
-  gathered = ap (λ es. record { names = names_of table; variables = d.variables; equations = es }) rules-read
+  pub gathered : definitions_in (record { syntax = syntax; symbols = d.symbols; variables = d.variables; rules = rules }) ≡ as_equations syntax (definitions_read d)
+  gathered = ap (λ es. record { syntax = syntax; names = names_of table; variables = d.variables; equations = es }) rules-read
 
   pub are_small : HaveSmallSides rules ↔ AreSmall (file_equations (map (numbered_read table) d.items))
   are_small = (
@@ -117,7 +118,7 @@ module _ (d : FileDefinitions) (rules : List Equation) (is : rules ≡ numbered_
     λ small. (small_read table rules).1 (subst AreSmall (sym rules-read) small),
   )
 
-  pub are_usable : AreLiveItems table d.items → AreUsable (record { symbols = d.symbols; variables = d.variables; rules = rules })
+  pub are_usable : AreLiveItems table d.items → AreUsable (record { syntax = syntax; symbols = d.symbols; variables = d.variables; rules = rules })
   are_usable live = record {
     live = subst (AreLive table) (sym is) (live_equations table d.items live);
     truths = subst (AreTruthsKnown table) (sym is) (truths_known table d.items);

@@ -31,7 +31,7 @@ module _ (l : Loaded) (new : Table) (k : Keeps l.symbols new) (ready : IsReady l
   definitions-kept =
       let names = names_kept l.symbols new k in
       let equations = read_kept l.symbols new k l.regular ready.live in
-      λ i. record { names = names i; variables = l.variables; equations = equations i }
+      λ i. record { syntax = l.syntax; names = names i; variables = l.variables; equations = equations i }
 
   -- and can be used still
   pub ready_kept : IsReady (held_with l new)

@@ -5,6 +5,7 @@ use Rattle.std.specs.declared.option.Option.{Option}
 use Rattle.std.specs.declared.option.Option.TheVariants.{Some}
 use Rattle.eq_base.specs.Rules.{rule_of}
 use Rattle.eq_base.specs.declared.rules.Equation.{Equation}
+use Rattle.term_lex.specs.declared.syntax.Syntax.{Syntax}
 use Rattle.symbol_table.specs.Table.{HasOneNumberEach, names_of}
 use Rattle.symbol_table.specs.Reading.{AreLive}
 use Rattle.regularity.specs.declared.breaks.Break.{Break}
@@ -23,11 +24,11 @@ use Rattle.ei_program.specs.Restrictions.{origin_of, broken_text, AreBroken}
 use Rattle.ei_program.specs.Loading.{AreUsable, IsReady, IsAdmitted, IsLoaded}
 use Rattle.ei_program.proofs.Broken.{told_read, lists_read, none_read}
 
-module _ (file : List ℕ) (equations : Equations) where
+module _ (syntax : Syntax) (file : List ℕ) (equations : Equations) where
   -- a file whose equations were admitted, or refused
-  pub admit_loaded : (found : Option (List ℕ)) (r : Result Loaded Outcome) → found ≡ Some file → Defines file (definitions_in equations) → IsAdmitted equations r → IsLoaded found r
+  pub admit_loaded : (found : Option (List ℕ)) (r : Result Loaded Outcome) → found ≡ Some file → Defines syntax file (definitions_in equations) → IsAdmitted equations r → IsLoaded syntax found r
   admit_loaded found (Ok loaded) is defines (same, ready) =
-      (file, is, subst (Defines file) (sym same) defines, ready.accepted.regular)
+      (file, is, subst (Defines syntax file) (sym same) defines, ready.accepted.regular)
   admit_loaded found (Err (Broken breaks rules)) is defines broken = (file, definitions_in equations, is, defines, broken)
   admit_loaded found (Err (Stopped NoMemory)) is defines a = tt
   admit_loaded found (Err (Stopped ReadFailed)) is defines a = absurd a
@@ -44,15 +45,15 @@ module _ (file : List ℕ) (equations : Equations) where
   admit_ready (Err outcome) a = tt
 
 -- equations that keep the restrictions can be used
-pub admitted : (e : Equations) (rules : List Equation) (file : List ℕ) → Defines file (definitions_in e) → AreUsable e
+pub admitted : (e : Equations) (rules : List Equation) (file : List ℕ) → Defines e.syntax file (definitions_in e) → AreUsable e
     → HasOneNumberEach e.symbols → rules ≡ e.rules → AreRegular rules
-    → IsAdmitted e (Ok (record { symbols = e.symbols; variables = e.variables; regular = rules }))
+    → IsAdmitted e (Ok (record { syntax = e.syntax; symbols = e.symbols; variables = e.variables; regular = rules }))
 admitted e rules file defines usable one same regular =
-    let held : Loaded = record { symbols = e.symbols; variables = e.variables; regular = rules } in
-    let is : definitions_of held ≡ definitions_in e = ap (λ es. record { names = names_of e.symbols; variables = e.variables; equations = map (file_equation e.symbols) es }) same in (
+    let held : Loaded = record { syntax = e.syntax; symbols = e.symbols; variables = e.variables; regular = rules } in
+    let is : definitions_of held ≡ definitions_in e = ap (λ es. record { syntax = e.syntax; names = names_of e.symbols; variables = e.variables; equations = map (file_equation e.symbols) es }) same in (
       is,
       record {
-        accepted = record { file = file; defines = subst (Defines file) (sym is) defines; regular = subst (λ (d : Definitions). BreaksNone d.equations) (sym is) (none_read e.symbols one e.rules usable.live (subst AreRegular same regular).no_violation) };
+        accepted = record { file = file; defines = subst (Defines e.syntax file) (sym is) defines; regular = subst (λ (d : Definitions). BreaksNone d.equations) (sym is) (none_read e.symbols one e.rules usable.live (subst AreRegular same regular).no_violation) };
         regular = regular;
         live = subst (AreLive e.symbols) (sym same) usable.live;
         truths = subst (AreTruthsKnown e.symbols) (sym same) usable.truths;

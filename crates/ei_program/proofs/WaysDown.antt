@@ -1,28 +1,13 @@
 -- The position of a node, by the argument in which it lies.
-use Rattle.std.proofs.Common.{◌≡◌, ℕ, zero, suc, ◌+◌, ◌-◌, ◌<◌, ◌≤◌, Some, [], ◌∷◌, refl, sym, ◌∙◌, ap, arith, ⊎_elim}
-use Rattle.std.proofs.lemmas.Bool.{cases_lt}
-use Rattle.eq_base.specs.Tree.{Tree, Forest, node, empty, grow, args_of, arity_of, count, size, total_size, nth_subtree, nth_position, subtree_at, number}
-use Rattle.eq_base.specs.Storing.{first_trees}
+use Rattle.std.proofs.Common.{◌≡◌, ℕ, ◌+◌, ◌-◌, ◌<◌, ◌≤◌, Some, [], ◌∷◌, refl, sym, ◌∙◌, ap, arith}
+use Rattle.eq_base.specs.Tree.{Tree, node, arity_of, size, nth_subtree, nth_position, subtree_at, number}
 use Rattle.eq_base.proofs.Trees.{argument_of, subtree_at-argument_of}
 use Rattle.eq_base.proofs.Positions.{subtree_at-nth_position}
 use Rattle.eq_base.proofs.Replacing.{number-nth_position}
-use Rattle.orthogonal_laws.proofs.Numbers.{subtree-append, number-append, number_first, position-number}
+use Rattle.eq_base.proofs.Numbers.{subtree-append, number-append, position-number}
+use Rattle.eq_base.proofs.Arguments.{place_of}
 
 module _ {A : Type 0} where
-  whole_size : (ts : Forest A) (n : ℕ) → count ts ≤ n → total_size (first_trees n ts) ≡ total_size ts
-  whole_size empty zero le = refl
-  whole_size empty (suc n) le = refl
-  whole_size (grow t ts) zero le = absurd (omega arith)
-  whole_size (grow t ts) (suc n) le = omega (arith, whole_size ts n (omega arith))
-
-  -- where nodes come after the first arguments, there is one more argument
-  pub has_more : (t : Tree A) (n : ℕ) → 1 + total_size (first_trees n (args_of t)) < size t → n < arity_of t
-  has_more (node a args) n lt =
-      ⊎_elim (λ below. below) (λ past. absurd (omega (arith, whole_size args n past))) (cases_lt n (count args))
-
-  number_of_argument : (t : Tree A) (i : ℕ) (s : Tree A) → subtree_at t (i ∷ []) ≡ Some s → number t (i ∷ []) ≡ 1 + total_size (first_trees i (args_of t))
-  number_of_argument (node a args) i s e = omega (arith, number_first args i s e)
-
   -- the position of a node below an argument
   below_argument : (s u : Tree A) (i n : ℕ) → subtree_at s (i ∷ []) ≡ Some u → n < size u → nth_position s (number s (i ∷ []) + n) ≡ i ∷ nth_position u n
   below_argument s u i n e lt =
@@ -37,7 +22,7 @@ module _ {A : Type 0} where
       let s = nth_subtree t at in
       let u = nth_subtree t argument in
       let stands : subtree_at s (i ∷ []) ≡ Some u = subtree_at-argument_of t at i lt there ∙ ap (λ k. Some (nth_subtree t k)) (sym place) in
-      let first = number_of_argument s i u stands in
+      let first = place_of s i u stands in
       let past : target - at ≡ number s (i ∷ []) + (target - argument) = omega (arith, place, first, before) in
       ap (nth_position s) past ∙ below_argument s u i (target - argument) stands (omega (arith, before, within))
 

@@ -1,9 +1,11 @@
 -- The line of a term, and what its writing leaves.
-use Rattle.std.specs.Prelude.{◌≡◌, ◌≢◌, ℕ, ◌≤◌, Bool, true, false, List, ◌++◌}
+use Rattle.std.specs.Prelude.{◌≡◌, ◌≢◌, ℕ, ◌≤◌, List, ◌++◌}
 use Rattle.eq_base.specs.Tree.{Tree}
 use Rattle.eq_base.specs.ReadHead.{ReadHead}
 use Rattle.eq_ports.specs.Causes.{Rose}
 use Rattle.ei_program.specs.declared.answer.Line.{Line}
+use Rattle.ei_program.specs.declared.answer.LineKind.{LineKind}
+use Rattle.ei_program.specs.declared.answer.LineKind.TheVariants.{NormalForm, Spent}
 use Rattle.ei_program.specs.declared.stop.Stop.TheVariants.{ReadFailed, WriteFailed}
 use Rattle.ei_program.specs.declared.outcome.Outcome.{Outcome}
 use Rattle.ei_program.specs.declared.outcome.Outcome.TheVariants.{Answered, Questions, BadWords, Stopped}
@@ -12,13 +14,13 @@ use Rattle.ei_program.specs.Lines.{IsNormalForm, IsSpent, IsLine, ended}
 
 module _ (budget : ℕ) where
   -- the line of its kind
-  abbrev pub IsLineBy : Bool → Definitions → Tree ReadHead → List ℕ → Type 0
-  IsLineBy true d t line = IsNormalForm budget d t line
-  IsLineBy false d t line = IsSpent budget d t line
+  abbrev pub IsLineBy : LineKind → Definitions → Tree ReadHead → List ℕ → Type 0
+  IsLineBy NormalForm d t line = IsNormalForm budget d t line
+  IsLineBy Spent d t line = IsSpent budget d t line
 
   -- the line answers the term
   abbrev pub IsLineOf : Definitions → Tree ReadHead → Line → Type 0
-  IsLineOf d t l = (line : List ℕ) × IsLineBy l.is_normal d t line × (l.text.items ≡ ended line)
+  IsLineOf d t l = (line : List ℕ) × IsLineBy l.kind d t line × (l.text.items ≡ ended line)
 
   -- what was written of the line, by the outcome
   abbrev pub LineLeft : Definitions → Tree ReadHead → Outcome → List ℕ → Type 0

@@ -9,10 +9,12 @@ use Rattle.eq_base.specs.declared.rules.Origin.{Origin}
 use Rattle.eq_base.specs.declared.rules.Equation.{Equation}
 use Rattle.term_lex.specs.declared.fault.Fault.{Fault}
 use Rattle.term_lex.specs.declared.fault.FaultKind.TheVariants.{NotYet}
+use Rattle.term_lex.specs.declared.syntax.Syntax.{Syntax}
 use Rattle.symbol_table.specs.Table.{Table, names_of}
 use Rattle.symbol_table.specs.Reading.{read_rule}
 use Rattle.def_file.specs.AsRead.{ReadItem, Equation as WrittenEquation, Class, ReadNumbered, ReadDefinitions}
 use Rattle.def_file.specs.Trees.{File}
+use Rattle.def_file.specs.Notations.{notation_of}
 use Rattle.def_file.specs.Grammar.{IsFileText}
 use Rattle.def_file.specs.Definitions.{Says, IsFileFault}
 use Rattle.def_file.specs.Unbuilt.{unbuilt_of}
@@ -26,8 +28,9 @@ pub record FileEquation : Type 0 where
   pub rule : Rule ReadHead
   pub origin : Origin
 
--- what is declared and included, the names of the variables, and the equations
+-- the notation, what is declared and included, the names of the variables, and the equations
 pub record Definitions : Type 0 where
+  pub syntax : Syntax
   pub names : Table
   pub variables : List (List ℕ)
   pub equations : List FileEquation
@@ -75,55 +78,60 @@ pub record AreSmall (equations : List FileEquation) : Type 0 where
 -- ---- a file, by its bytes
 
 -- the file has no include and no qualifier
-pub record IsBuilt (text : List ℕ) : Type 0 where
+pub record IsBuilt (syntax : Syntax) (text : List ℕ) : Type 0 where
   pub file : File
-  pub reads : IsFileText text file
+  pub reads : IsFileText (notation_of syntax) text file
   pub none : unbuilt_of file ≡ []
 
 -- the file has an include or a qualifier, and the first stands at the byte
-pub record IsUnbuilt (text : List ℕ) (byte : ℕ) : Type 0 where
+pub record IsUnbuilt (syntax : Syntax) (text : List ℕ) (byte : ℕ) : Type 0 where
   pub file : File
-  pub reads : IsFileText text file
+  pub reads : IsFileText (notation_of syntax) text file
   pub first : slice_get (unbuilt_of file) 0 ≡ Some byte
 
--- what a file says, taken as equations
-abbrev pub as_equations : ReadDefinitions → Definitions
-as_equations read =
-    record { names = read.names; variables = read.variables; equations = file_equations read.items }
+-- what a file in the notation says, taken as equations
+abbrev pub as_equations : Syntax → ReadDefinitions → Definitions
+as_equations syntax read = record {
+  syntax = syntax;
+  names = read.names;
+  variables = read.variables;
+  equations = file_equations read.items;
+}
 
 -- the file has no fault, no include and no qualifier, and gives these definitions
-pub record GivesDefinitions (text : List ℕ) (d : Definitions) : Type 0 where
+pub record GivesDefinitions (syntax : Syntax) (text : List ℕ) (d : Definitions) : Type 0 where
   pub read : ReadDefinitions
-  pub says : Says text read
-  pub built : IsBuilt text
-  pub is : d ≡ as_equations read
+  pub says : Says (notation_of syntax) text read
+  pub built : IsBuilt syntax text
+  pub is : d ≡ as_equations syntax read
 
 -- the file gives these definitions, and they are not too large
-abbrev pub Defines : List ℕ → Definitions → Type 0
-Defines text d = GivesDefinitions text d × AreSmall d.equations
+abbrev pub Defines : Syntax → List ℕ → Definitions → Type 0
+Defines syntax text d = GivesDefinitions syntax text d × AreSmall d.equations
 
 -- the file has no fault, but an include or a qualifier
-pub record IsNotYet (text : List ℕ) (fault : Fault) : Type 0 where
+pub record IsNotYet (syntax : Syntax) (text : List ℕ) (fault : Fault) : Type 0 where
   pub read : ReadDefinitions
-  pub says : Says text read
-  pub unbuilt : IsUnbuilt text fault.byte
+  pub says : Says (notation_of syntax) text read
+  pub unbuilt : IsUnbuilt syntax text fault.byte
   pub kind : fault.kind ≡ NotYet
 
 -- the file has neither, but is too large
-pub record IsLarge (text : List ℕ) (fault : Fault) : Type 0 where
+pub record IsLarge (syntax : Syntax) (text : List ℕ) (fault : Fault) : Type 0 where
   pub definitions : Definitions
-  pub gives : GivesDefinitions text definitions
+  pub gives : GivesDefinitions syntax text definitions
   pub large : ¬ AreSmall definitions.equations
   pub is : fault ≡ record { kind = NotYet; byte = 0 }
 
 -- why a file is refused: its first fault, or what is not built yet
-abbrev pub RefusesFile : List ℕ → Fault → Type 0
-RefusesFile text fault = IsFileFault text fault ⊎ (IsNotYet text fault ⊎ IsLarge text fault)
+abbrev pub RefusesFile : Syntax → List ℕ → Fault → Type 0
+RefusesFile syntax text fault =
+    IsFileFault (notation_of syntax) text fault ⊎ (IsNotYet syntax text fault ⊎ IsLarge syntax text fault)
 
 -- a file gives the definitions, and the equations break no restriction
 pub record IsAccepted (d : Definitions) : Type 0 where
   pub file : List ℕ
-  pub defines : Defines file d
+  pub defines : Defines d.syntax file d
   pub regular : BreaksNone d.equations
 
 -- ---- what a program holds
@@ -135,6 +143,7 @@ file_equation table e = record { rule = read_rule table e; origin = e.origin }
 -- what the reader of a file holds
 abbrev pub definitions_in : Equations → Definitions
 definitions_in e = record {
+  syntax = e.syntax;
   names = names_of e.symbols;
   variables = e.variables;
   equations = map (file_equation e.symbols) e.rules;
@@ -143,6 +152,7 @@ definitions_in e = record {
 -- what a program holds that loaded a file
 abbrev pub definitions_of : Loaded → Definitions
 definitions_of l = record {
+  syntax = l.syntax;
   names = names_of l.symbols;
   variables = l.variables;
   equations = map (file_equation l.symbols) l.regular;

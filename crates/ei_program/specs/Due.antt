@@ -7,7 +7,6 @@ use Rattle.eq_base.specs.Rules.{rule_of}
 use Rattle.eq_base.specs.declared.rules.Equation.{Equation}
 use Rattle.term_lex.specs.declared.fault.Fault.{Fault}
 use Rattle.ei_program.specs.declared.words.Task.{Task}
-use Rattle.ei_program.specs.declared.words.Task.TheVariants.{Answer, Check}
 use Rattle.ei_program.specs.declared.outcome.Outcome.{Outcome}
 use Rattle.ei_program.specs.declared.outcome.Outcome.TheVariants.{Answered, Questions, BadWords, FileRefused, Broken, TermRefused}
 use Rattle.ei_program.specs.declared.status.Status.{Status}
@@ -16,34 +15,34 @@ use Rattle.ei_program.specs.Words.{IsCommandLine}
 use Rattle.ei_program.specs.Definitions.{Definitions, RefusesFile}
 use Rattle.ei_program.specs.Restrictions.{origin_of, broken_text, AreBroken}
 use Rattle.ei_program.specs.Input.{Holds, RefusesInput}
-use Rattle.ei_program.specs.Run.{Given, HasFile, HasDefinitions, Accepts}
+use Rattle.ei_program.specs.Run.{Given, HasFile, HasDefinitions, AcceptsAnswer, AcceptsCheck}
 use Rattle.ei_program.specs.Telling.{IsOutcomeTold}
 
 -- the file is accepted, and the input is short enough and holds terms, one at most
 pub record CanAnswer (given : Given) : Type 0 where
   pub budget : ℕ
   pub definitions : Definitions
-  pub accepts : Accepts given (Answer budget) definitions
+  pub accepts : AcceptsAnswer given budget definitions
   pub short : length given.input ≤ 2 ^ 24
   pub terms : List (Tree ReadHead)
-  pub holds : Holds definitions.names given.input terms
+  pub holds : Holds definitions.syntax definitions.names given.input terms
 
 -- the file is accepted, and the input is refused for this fault
 pub record HasTermFault (given : Given) (fault : Fault) : Type 0 where
   pub budget : ℕ
   pub definitions : Definitions
-  pub accepts : Accepts given (Answer budget) definitions
-  pub refused : RefusesInput definitions.names given.input fault
+  pub accepts : AcceptsAnswer given budget definitions
+  pub refused : RefusesInput definitions.syntax definitions.names given.input fault
 
 -- the run has to come to this outcome
 abbrev pub IsDue : Given → Outcome → Type 0
 IsDue given BadWords = ¬ IsCommandLine given.words
 IsDue given (FileRefused fault) = (task : Task) × (bytes : List ℕ) × HasFile given task bytes
-    × RefusesFile bytes fault
+    × RefusesFile task.syntax bytes fault
 IsDue given (Broken breaks rules) = (task : Task) × (d : Definitions) × HasDefinitions given task d
     × AreBroken d.equations breaks rules
 IsDue given (TermRefused fault) = HasTermFault given fault
-IsDue given Answered = CanAnswer given ⊎ ((d : Definitions) × Accepts given Check d)
+IsDue given Answered = CanAnswer given ⊎ ((d : Definitions) × AcceptsCheck given d)
 IsDue given outcome = ⊥
 
 -- the outcome is the one that is due; of terms that can be answered, some may be answered by `? spent`, and breaks are

@@ -7,6 +7,7 @@ pub mod Definitions
 pub mod Gathering
 pub mod Input
 pub mod Lines
+pub mod Printing
 pub mod Run
 pub mod Telling
 pub mod Due

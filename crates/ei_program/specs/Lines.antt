@@ -3,7 +3,7 @@ use Rattle.std.specs.Prelude.{◌≡◌, ◌⊎◌, ℕ, ◌<◌, ◌≤◌, Lis
 use Rattle.eq_base.specs.Tree.{Tree}
 use Rattle.eq_base.specs.Rewriting.{IsDerivable, IsNormal}
 use Rattle.eq_base.specs.ReadHead.{ReadHead}
-use Rattle.standmath.specs.Printing.{print}
+use Rattle.ei_program.specs.Printing.{print}
 use Rattle.orthogonal_laws.specs.Strategy.{PlainRun, HasLength}
 use Rattle.ei_program.specs.Definitions.{Definitions, system}
 
@@ -17,7 +17,7 @@ pub record IsNormalForm (budget : ℕ) (d : Definitions) (t : Tree ReadHead) (li
   pub steps : ℕ
   pub length : HasLength (system d) t steps form
   pub within : steps ≤ budget
-  pub printed : line ≡ print d.names form
+  pub printed : line ≡ print d.syntax d.names form
 
 -- the line says that the whole budget was used, and a redex is left; where some derivation ends in a normal form, the plain run ends in it, and is longer than the budget
 pub record IsSpent (budget : ℕ) (d : Definitions) (t : Tree ReadHead) (line : List ℕ) : Type 0 where

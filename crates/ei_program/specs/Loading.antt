@@ -6,6 +6,7 @@ use Rattle.std.specs.Prelude.{Vec}
 use Rattle.std.specs.declared.alloc.Global.{Global}
 use Rattle.eq_ports.specs.Causes.{Rose}
 use Rattle.term_lex.specs.declared.fault.FaultKind.TheVariants.{FileLong, NotYet}
+use Rattle.term_lex.specs.declared.syntax.Syntax.{Syntax}
 use Rattle.symbol_table.specs.Reading.{AreLive}
 use Rattle.def_file.specs.declared.definitions.Definitions.{Definitions as FileDefinitions}
 use Rattle.def_file.specs.AsRead.{definitions_read}
@@ -32,13 +33,13 @@ IsFileTaken found (Err (Stopped ReadFailed)) = Unit {0}
 IsFileTaken found (Err outcome) = ⊥
 
 -- what a file says is taken as equations, which are not too large; or they are; or memory ran out
-abbrev pub AreGathered : FileDefinitions → Result Equations FileError → Type 0
-AreGathered read (Ok equations) =
-    (definitions_in equations ≡ as_equations (definitions_read read))
+abbrev pub AreGathered : Syntax → FileDefinitions → Result Equations FileError → Type 0
+AreGathered syntax read (Ok equations) =
+    (definitions_in equations ≡ as_equations syntax (definitions_read read))
     × AreSmall (file_equations (definitions_read read).items)
-AreGathered read (Err (Refused fault)) =
+AreGathered syntax read (Err (Refused fault)) =
     (¬ AreSmall (file_equations (definitions_read read).items)) × (fault ≡ record { kind = NotYet; byte = 0 })
-AreGathered read (Err error) = Unit {0}
+AreGathered syntax read (Err error) = Unit {0}
 
 -- each number in the equations is live, and the truth values are declared where the value of an operation is one
 pub record AreUsable (e : Equations) : Type 0 where
@@ -60,15 +61,16 @@ IsAdmitted equations (Err (Stopped NoMemory)) = Unit {0}
 IsAdmitted equations (Err outcome) = ⊥
 
 -- the file gives equations that break no restriction; or it is not accepted, with this outcome
-abbrev pub IsLoaded : Option (List ℕ) → Result Loaded Outcome → Type 0
-IsLoaded found (Ok loaded) = (file : List ℕ) × (found ≡ Some file) × Defines file (definitions_of loaded)
-    × BreaksNone (definitions_of loaded).equations
-IsLoaded found (Err (FileRefused fault)) = (file : List ℕ) × (found ≡ Some file) × RefusesFile file fault
-IsLoaded found (Err (Broken breaks rules)) = (file : List ℕ) × (d : Definitions) × (found ≡ Some file)
-    × Defines file d × AreBroken d.equations breaks rules
-IsLoaded found (Err (Stopped NoMemory)) = Unit {0}
-IsLoaded found (Err (Stopped ReadFailed)) = Unit {0}
-IsLoaded found (Err outcome) = ⊥
+abbrev pub IsLoaded : Syntax → Option (List ℕ) → Result Loaded Outcome → Type 0
+IsLoaded syntax found (Ok loaded) = (file : List ℕ) × (found ≡ Some file)
+    × Defines syntax file (definitions_of loaded) × BreaksNone (definitions_of loaded).equations
+IsLoaded syntax found (Err (FileRefused fault)) = (file : List ℕ) × (found ≡ Some file)
+    × RefusesFile syntax file fault
+IsLoaded syntax found (Err (Broken breaks rules)) = (file : List ℕ) × (d : Definitions) × (found ≡ Some file)
+    × Defines syntax file d × AreBroken d.equations breaks rules
+IsLoaded syntax found (Err (Stopped NoMemory)) = Unit {0}
+IsLoaded syntax found (Err (Stopped ReadFailed)) = Unit {0}
+IsLoaded syntax found (Err outcome) = ⊥
 
 -- where a read failed, the fault count rose, and else it is as before; nothing is written, and the words are not looked at
 pub record IsReadOutcome {T : Type 0} (before now : ℕ) (result : Result T Outcome) : Type 0 where

@@ -6,7 +6,7 @@ use Rattle.std.specs.Io.KnownBytes.{Appends}
 use Rattle.eq_base.specs.Tree.{Tree}
 use Rattle.eq_base.specs.ReadHead.{ReadHead}
 use Rattle.ei_program.specs.declared.words.Task.{Task}
-use Rattle.ei_program.specs.declared.words.Task.TheVariants.{Answer, Check}
+use Rattle.ei_program.specs.declared.words.Mode.TheVariants.{Answer, Check}
 use Rattle.ei_program.specs.declared.stop.Stop.{Stop}
 use Rattle.ei_program.specs.declared.stop.Stop.TheVariants.{NoMemory, ReadFailed, WriteFailed}
 use Rattle.ei_program.specs.declared.outcome.Outcome.{Outcome}
@@ -33,12 +33,20 @@ pub record HasFile (given : Given) (task : Task) (bytes : List ℕ) : Type 0 whe
 pub record HasDefinitions (given : Given) (task : Task) (d : Definitions) : Type 0 where
   pub bytes : List ℕ
   pub file : HasFile given task bytes
-  pub defines : Defines bytes d
+  pub defines : Defines task.syntax bytes d
 
 -- the file gives these definitions, and they break no restriction
 pub record Accepts (given : Given) (task : Task) (d : Definitions) : Type 0 where
   pub definitions : HasDefinitions given task d
   pub regular : BreaksNone d.equations
+
+-- the words ask that the terms are answered, and the file is accepted
+abbrev pub AcceptsAnswer : Given → ℕ → Definitions → Type 0
+AcceptsAnswer given budget d = Accepts given (record { syntax = d.syntax; mode = Answer budget }) d
+
+-- the words ask that the file is checked, and it is accepted
+abbrev pub AcceptsCheck : Given → Definitions → Type 0
+AcceptsCheck given d = Accepts given (record { syntax = d.syntax; mode = Check }) d
 
 -- ---- the answering of a text's terms
 
@@ -46,14 +54,14 @@ pub record Accepts (given : Given) (task : Task) (d : Definitions) : Type 0 wher
 pub record AreAnswers (Fits : Tree ReadHead → List ℕ → Type 0) (d : Definitions) (text : List ℕ)
     (lines : List (List ℕ)) : Type 0 where
   pub terms : List (Tree ReadHead)
-  pub reads : Holds d.names text terms
+  pub reads : Holds d.syntax d.names text terms
   pub fit : AreLines Fits terms lines
 
 -- the first terms of the text are answered
 pub record AnswersFirst (budget : ℕ) (d : Definitions) (text : List ℕ) (lines : List (List ℕ)) : Type 0 where
   pub terms : List (Tree ReadHead)
   pub last : ℕ
-  pub reads : Terms d.names text 0 terms last
+  pub reads : Terms d.syntax d.names text 0 terms last
   pub fit : AreLines (IsLine budget d) terms lines
 
 -- all terms are answered, and some by `? spent`
@@ -67,7 +75,7 @@ TextLeft budget d text Answered written = (lines : List (List ℕ))
     × AreAnswers (IsNormalForm budget d) d text lines × (written ≡ text_of_lines lines)
 TextLeft budget d text Questions written = (lines : List (List ℕ)) × AnswersInPart budget d text lines
     × (written ≡ text_of_lines lines)
-TextLeft budget d text (TermRefused fault) written = HasInputFault d.names text fault × (written ≡ [])
+TextLeft budget d text (TermRefused fault) written = HasInputFault d.syntax d.names text fault × (written ≡ [])
 -- whole lines of the first terms
 TextLeft budget d text (Stopped NoMemory) written = (lines : List (List ℕ)) × AnswersFirst budget d text lines
     × (written ≡ text_of_lines lines)
@@ -102,7 +110,8 @@ InputLeft budget d input left Answered written = (left ≡ Some []) × (length i
 InputLeft budget d input left Questions written = (left ≡ Some []) × (length input ≤ 2 ^ 24)
     × TextLeft budget d input Questions written
 -- longer than may be taken, or refused
-InputLeft budget d input left (TermRefused fault) written = RefusesInput d.names input fault × (written ≡ [])
+InputLeft budget d input left (TermRefused fault) written = RefusesInput d.syntax d.names input fault
+    × (written ≡ [])
 InputLeft budget d input left (Stopped ReadFailed) written = CutLeft budget d input left written
 InputLeft budget d input left outcome written = TakenLeft budget d input outcome written
 
@@ -130,13 +139,13 @@ pub record AnswersTask (given : Given) (left : Option (List ℕ)) (outcome : Out
     (written : List ℕ) : Type 0 where
   pub definitions : Definitions
   pub budget : ℕ
-  pub accepts : Accepts given (Answer budget) definitions
+  pub accepts : AcceptsAnswer given budget definitions
   pub answered : InputLeft budget definitions given.input left outcome written
 
 pub record ChecksTask (given : Given) (left : Option (List ℕ)) (outcome : Outcome)
     (written : List ℕ) : Type 0 where
   pub definitions : Definitions
-  pub accepts : Accepts given Check definitions
+  pub accepts : AcceptsCheck given definitions
   pub untouched : left ≡ Some given.input
   pub told : IsChecked definitions outcome written
 
@@ -144,7 +153,7 @@ pub record ChecksTask (given : Given) (left : Option (List ℕ)) (outcome : Outc
 abbrev pub Leaves : Given → Option (List ℕ) → Outcome → List ℕ → Type 0
 Leaves given left BadWords written = (¬ IsCommandLine given.words) × Untouched given left written
 Leaves given left (FileRefused fault) written =
-    ((task : Task) × (bytes : List ℕ) × HasFile given task bytes × RefusesFile bytes fault)
+    ((task : Task) × (bytes : List ℕ) × HasFile given task bytes × RefusesFile task.syntax bytes fault)
     × Untouched given left written
 Leaves given left (Broken breaks rules) written =
     ((task : Task) × (d : Definitions) × HasDefinitions given task d × AreBroken d.equations breaks rules)

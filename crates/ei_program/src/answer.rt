@@ -10,20 +10,29 @@ ghost use Rattle.eq_base.specs.ReadHead.{ReadHead};
 
 use crate::input::read_input;
 use crate::loading::Loaded;
+use crate::notation::write_term;
 use crate::outcome::Outcome;
 use crate::stop::Stop;
 use eq_base::{Flat, NoMemory};
 use eq_ports::{Sink, write_whole};
 use orthogonal_laws::{PlainEnd, plain_run};
-use standmath::{ReadError, write_term};
 use std::alloc::Global;
+use written_terms::ReadError;
+
+/// What a line tells of its term.
+#[derive(Clone, Copy, Debug, PartialEq, Eq)]
+pub enum LineKind {
+    /// The normal form.
+    NormalForm,
+    /// That the budget was spent: `? spent N`.
+    Spent,
+}
 
 /// The line that answers a term, with its end.
 #[derive(Drop)]
 pub struct Line {
+    pub kind: LineKind,
     pub text: Vec<u8>,
-    /// It is the print of a normal form, and not `? spent`.
-    pub is_normal: bool,
 }
 
 /// The line that answers a term.
@@ -37,18 +46,18 @@ fn line_of(alloc: Global, loaded: &mut Loaded, budget: u64, term: Flat) -> Resul
     match plain_run(alloc, &loaded.regular, &mut loaded.symbols, term, budget)? {
         PlainEnd::Normal(form, _) => {
             let mut text = Vec::new(alloc);
-            write_term(alloc, &loaded.symbols, &form, 0, &mut text)?;
+            write_term(alloc, loaded.syntax, &loaded.symbols, &form, &mut text)?;
             text.push(b'\n')?;
             Ok(Line {
+                kind: LineKind::NormalForm,
                 text,
-                is_normal: true,
             })
         }
         PlainEnd::Spent(_) => {
             let text = format!(in alloc; "? spent {budget}\n")?;
             Ok(Line {
+                kind: LineKind::Spent,
                 text: text.into_bytes(),
-                is_normal: false,
             })
         }
     }
@@ -63,10 +72,9 @@ fn write_line<O: Sink>(line: &Line, output: &mut O) -> Outcome
     if write_whole(output, &line.text).is_err() {
         return Outcome::Stopped(Stop::WriteFailed);
     }
-    if line.is_normal {
-        Outcome::Answered
-    } else {
-        Outcome::Questions
+    match line.kind {
+        LineKind::NormalForm => Outcome::Answered,
+        LineKind::Spent => Outcome::Questions,
     }
 }
 
@@ -83,7 +91,7 @@ pub fn answer_text<O: Sink>(
         (O.taken output.old) (O.taken output.new) }
     ensures count { IsWriteOutcome (O.faults output.old) (O.faults output.new) result }
 {
-    let term = match read_input(alloc, &mut loaded.symbols, text) {
+    let term = match read_input(alloc, loaded.syntax, &mut loaded.symbols, text) {
         Ok(Some(term)) => term,
         Ok(None) => return Outcome::Answered,
         Err(ReadError::Refused(fault)) => return Outcome::TermRefused(fault),

@@ -25,6 +25,8 @@ const RIGHT_CELLS: usize = 2_097_152;
 /// What a definitions file gives.
 #[derive(Drop)]
 pub struct Equations {
+    /// The notation in which it was read.
+    pub syntax: Syntax,
     /// The symbols that it declares.
     pub symbols: Symbols,
     /// The variables that it declares.
@@ -102,9 +104,13 @@ fn not_yet(byte: usize) -> FileError
 /// # Errors
 ///
 /// `NotYet` at byte 0 where they have too many cells; out of memory.
-fn equations_in(alloc: Global, definitions: Definitions) -> Result<Equations, FileError>
+fn equations_in(
+    alloc: Global,
+    syntax: Syntax,
+    definitions: Definitions,
+) -> Result<Equations, FileError>
     requires { AreLiveItems definitions.symbols definitions.items }
-    ensures gathered { AreGathered definitions result }
+    ensures gathered { AreGathered syntax definitions result }
     ensures usable { IfOk result AreUsable }
 {
     let Definitions {
@@ -119,26 +125,28 @@ fn equations_in(alloc: Global, definitions: Definitions) -> Result<Equations, Fi
         return Err(not_yet(0));
     }
     Ok(Equations {
+        syntax,
         symbols,
         variables,
         rules,
     })
 }
 
-/// Reads the equations of a definitions file. Linear in the text and the sizes of its terms.
+/// Reads the equations of a definitions file in the notation. Linear in the text and the sizes of its terms.
 ///
 /// # Errors
 ///
 /// The first fault of the file; `NotYet` at its first include or qualifier, or at byte 0 where its equations have more than
 /// 32,768 cells on the left or 2,097,152 on the right; out of memory.
-pub fn read_equations(alloc: Global, text: &[u8]) -> Result<Equations, FileError>
-    ensures ok { IfOk result (λ equations. Defines text.now (definitions_in equations)) }
+pub fn read_equations(alloc: Global, syntax: Syntax, text: &[u8]) -> Result<Equations, FileError>
+    ensures ok { IfOk result (λ equations. Defines syntax text.now (definitions_in equations)) }
+    ensures syntax { IfOk result (λ equations. equations.syntax ≡ syntax) }
     ensures usable { IfOk result AreUsable }
-    ensures refused { IfErr result (IfRefused (RefusesFile text.now)) }
+    ensures refused { IfErr result (IfRefused (RefusesFile syntax text.now)) }
 {
-    let definitions = read_definitions(alloc, text, Syntax::Standmath)?;
-    match unbuilt_at(alloc, text) {
-        Ok(None) => equations_in(alloc, definitions),
+    let definitions = read_definitions(alloc, text, syntax)?;
+    match unbuilt_at(alloc, text, syntax) {
+        Ok(None) => equations_in(alloc, syntax, definitions),
         Ok(Some(byte)) => Err(not_yet(byte)),
         Err(error) => Err(error),
     }

@@ -15,7 +15,7 @@ use eq_ports::{FileSource, Files};
 use sequentiality::{AdmitError, Regular};
 use std::alloc::Global;
 use symbol_table::{Symbols, Variables};
-use term_lex::{Fault, FaultKind};
+use term_lex::{Fault, FaultKind, Syntax};
 
 /// The most bytes of a definitions file or an input: 2^24.
 pub const TEXT_BYTES: usize = 16_777_216;
@@ -23,6 +23,8 @@ pub const TEXT_BYTES: usize = 16_777_216;
 /// What a definitions file gives whose equations break no restriction.
 #[derive(Drop)]
 pub struct Loaded {
+    /// The notation of the file, of terms and of their lines.
+    pub syntax: Syntax,
     /// The symbols that it declares, with the atoms and strings that were read since.
     pub symbols: Symbols,
     /// The variables that it declares.
@@ -66,7 +68,7 @@ fn take_file<F: Files>(alloc: Global, files: &mut F, name: &str) -> Result<Vec<u
 
 /// The equations, where they break no restriction.
 fn admit(alloc: Global, equations: Equations) -> Result<Loaded, Outcome>
-    requires defined { (file : List ℕ) × Defines file (definitions_in equations) }
+    requires defined { (file : List ℕ) × Defines equations.syntax file (definitions_in equations) }
     requires usable { AreUsable equations }
     ensures admitted { IsAdmitted equations result }
     ensures told { IfErr result CanBeTold }
@@ -74,6 +76,7 @@ fn admit(alloc: Global, equations: Equations) -> Result<Loaded, Outcome>
     equations.symbols.has_one_number_each();
     match Regular::admit(alloc, equations.rules) {
         Ok(regular) => Ok(Loaded {
+            syntax: equations.syntax,
             symbols: equations.symbols,
             variables: equations.variables,
             regular,
@@ -83,16 +86,21 @@ fn admit(alloc: Global, equations: Equations) -> Result<Loaded, Outcome>
     }
 }
 
-/// What the named file defines, or the outcome of a run that does not accept it.
-pub fn load<F: Files>(alloc: Global, files: &mut F, name: &str) -> Result<Loaded, Outcome>
+/// What the named file defines in the notation, or the outcome of a run that does not accept it.
+pub fn load<F: Files>(
+    alloc: Global,
+    syntax: Syntax,
+    files: &mut F,
+    name: &str,
+) -> Result<Loaded, Outcome>
     ensures loaded { (named : List ℕ → Option (List ℕ)) → F.named files.old ≡ Some named
-        → IsLoaded (named name.now) result }
+        → IsLoaded syntax (named name.now) result }
     ensures ready { IfOk result IsReady }
     ensures told { IfErr result CanBeTold }
     ensures count { IsReadOutcome (F.faults files.old) (F.faults files.new) result }
 {
     let bytes = take_file(alloc, files, name)?;
-    match read_equations(alloc, &bytes) {
+    match read_equations(alloc, syntax, &bytes) {
         Ok(equations) => admit(alloc, equations),
         Err(FileError::Refused(fault)) => Err(Outcome::FileRefused(fault)),
         Err(FileError::NoMemory) => Err(Outcome::Stopped(Stop::NoMemory)),

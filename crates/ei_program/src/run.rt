@@ -14,7 +14,7 @@ use crate::loading::{Loaded, TEXT_BYTES, load};
 use crate::outcome::Outcome;
 use crate::stop::Stop;
 use crate::taking::{Ending, take_up_to};
-use crate::words::{Task, read_words};
+use crate::words::{Mode, read_words};
 use eq_ports::{Files, Sink, Source, write_whole};
 use std::alloc::Global;
 use term_lex::{Fault, FaultKind};
@@ -118,10 +118,10 @@ pub fn run<F: Files, I: Source, O: Sink>(
     let Some(command) = read_words(words) else {
         return Outcome::BadWords;
     };
-    match load(alloc, files, command.file) {
-        Ok(mut loaded) => match command.task {
-            Task::Answer(budget) => answer_input(alloc, &mut loaded, budget, input, output),
-            Task::Check => tell_accepted(alloc, &loaded, output),
+    match load(alloc, command.task.syntax, files, command.file) {
+        Ok(mut loaded) => match command.task.mode {
+            Mode::Answer(budget) => answer_input(alloc, &mut loaded, budget, input, output),
+            Mode::Check => tell_accepted(alloc, &loaded, output),
         },
         Err(outcome) => outcome,
     }

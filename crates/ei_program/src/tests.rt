@@ -67,6 +67,12 @@ For all x, y:
   f(x) = g(x) where x is either a or s(y) end or end where.
 ";
 
+const APPEND: &str = "Symbols cons: 2; nil: 0; append: 2; a: 0; b: 0.
+For all x, y, z:
+  append[(); y] = y;
+  append[(x . y); z] = (x . append[y; z]).
+";
+
 const TWICE: &str = "Symbols a: 0; a: 1. For all: a = a.";
 
 /// A port of a run.
@@ -270,6 +276,56 @@ fn refused_files(rt: HostRuntime) -> Result<(), Fail> {
 }
 
 #[test]
+fn lists(rt: HostRuntime) -> Result<(), Fail> {
+    let words = ["--syntax=lisp.m", "E"];
+    for (file, input, status, output, errors) in [
+        (APPEND, "append[(a b); (b . a)].", 0, "(a b b . a)\n", ""),
+        (APPEND, "cons[a; nil].", 0, "(a)\n", ""),
+        (APPEND, "append[(); ()].", 0, "()\n", ""),
+        (
+            APPEND,
+            "( . a).",
+            6,
+            "",
+            "ei: term refused: DotPlace at byte 2\n",
+        ),
+        (
+            "Symbols a: 0. For all: .",
+            "().",
+            6,
+            "",
+            "ei: term refused: ListNeedsCons at byte 0\n",
+        ),
+        (
+            "Symbols f: 1. For all x: f[(x . x . x)] = x.",
+            "",
+            4,
+            "",
+            "ei: equations refused: DotPlace at byte 34\n",
+        ),
+        (
+            PEANO,
+            "",
+            4,
+            "",
+            "ei: equations refused: Expected at byte 49\n",
+        ),
+    ] {
+        let row = Row {
+            words: &words,
+            file,
+            input,
+            status,
+            output,
+            errors,
+            ..ADDITION
+        };
+        expect(&rt, rt.alloc(), &row)?;
+    }
+    Ok(())
+}
+
+#[test]
 fn broken_restrictions(rt: HostRuntime) -> Result<(), Fail> {
     for (file, errors) in [
         (
@@ -399,6 +455,15 @@ fn command_lines(rt: HostRuntime) -> Result<(), Fail> {
     let bad = "ei: bad command line\n";
     for (words, status, output, errors) in [
         (["--check", "E"].as_slice(), 0, "accepted 2\n", ""),
+        (
+            ["--syntax=standmath", "--check", "E"].as_slice(),
+            0,
+            "accepted 2\n",
+            "",
+        ),
+        (["--syntax=standmath"].as_slice(), 2, "", bad),
+        (["--syntax=lispm", "E"].as_slice(), 2, "", bad),
+        (["--check", "--syntax=lisp.m", "E"].as_slice(), 2, "", bad),
         (["--check", "none"].as_slice(), 7, "", "ei: read failed\n"),
         (["none"].as_slice(), 7, "", "ei: read failed\n"),
         ([].as_slice(), 2, "", bad),

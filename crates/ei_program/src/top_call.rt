@@ -58,8 +58,8 @@ pub fn ei<F: Files, I: Source, O: Sink, E: Sink>(
     output: &mut O,
     errors: &mut E,
 ) -> Status
-    // What stands on the output and the errors, by the status, in every run: a printed line is the print of a normal
-    // term that is derivable from the term that was read, by the equations that were read.
+    // What stands on the output and the errors, by the status, in every run: a printed line is the print of the only
+    // normal term that is derivable from the term that was read, by the equations that were read.
     ensures leaves { (named : List ℕ → Option (List ℕ)) (bytes : List ℕ) → F.named files.old ≡ Some named
         → I.left input.old ≡ Some bytes
         → IsRun (record { words = map string_bytes words.items; named = named; input = bytes })

@@ -54,7 +54,6 @@ pub mod Reaching
 pub mod JoinedWalks
 pub mod PlainRuns
 pub mod Mismatches
-pub mod Numbers
 pub mod Followed
 mod Failing
 mod Failures

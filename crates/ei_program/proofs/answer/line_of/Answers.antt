@@ -5,28 +5,23 @@ use Rattle.eq_base.specs.declared.head.Head.{Head}
 use Rattle.symbol_table.specs.Table.{Table, names_of}
 use Rattle.symbol_table.specs.Reading.{read, IsLiveTerm}
 use Rattle.symbol_table.proofs.Keeping.{names_kept}
-use Rattle.standmath.specs.Printing.{print}
+use Rattle.ei_program.specs.Printing.{print}
 use Rattle.orthogonal_laws.specs.Run.{IsLiveEnd}
-use Rattle.eq_base.proofs.Trees.{first_node, some_node}
 use Rattle.ei_program.proofs.Answers.{normal_line, spent_line}
 use Rattle.ei_program.proofs.answer.line_of.Goals as goal
 
-pub write_term-requires-clause-node : goal.write_term-requires-clause-node
-write_term-requires-clause-node c = some_node c.in-Normal.form
-
-pub write_term-requires-clause-printable : goal.write_term-requires-clause-printable
-write_term-requires-clause-printable c =
-    subst (IsLiveTerm c.plain_run.new.symbols) (sym (first_node c.in-Normal.form)) (subst (IsLiveEnd c.plain_run.new.symbols) c.in-Normal.is c.in_ok-form.ensures.live)
+pub write_term-requires : goal.write_term-requires
+write_term-requires c = subst (IsLiveEnd c.plain_run.new.symbols) c.in-Normal.is c.in_ok-form.ensures.live
 
 pub returns-in-Normal : goal.returns-in-Normal
 returns-in-Normal c =
     let l = c.args.loaded.now in
     let new = c.plain_run.new.symbols in
     let form = c.in-Normal.form in
-    let printed : Table → Tree Head → List ℕ = λ names t. print names (read new t) in (
-      print (names_of l.symbols) (read new form),
+    let printed : Table → List ℕ = λ names. print l.syntax names (read new form) in (
+      printed (names_of l.symbols),
       normal_line l c.requires.ready c.has_one_number_each.ensures.distinct c.args.budget c.args.term new _ c.in_ok-form.ensures.ok form c.in-Normal.field-1 c.in-Normal.is,
-      c.in_ok-push-in-Normal.ensures.items ∙ ap (λ z. z ++ 10 ∷ []) (c.in_ok-write_term-in-Normal.ensures.ok ∙ rw c.new-text.ensures.items (ap (printed (names_of new)) (first_node form) ∙ ap (λ names. printed names form) (names_kept l.symbols new c.in_ok-form.ensures.keeps))),
+      c.in_ok-push-in-Normal.ensures.items ∙ ap (λ z. z ++ 10 ∷ []) (c.in_ok-write_term-in-Normal.ensures ∙ rw c.new-text.ensures.items (ap printed (names_kept l.symbols new c.in_ok-form.ensures.keeps))),
     )
 
 pub returns : goal.returns

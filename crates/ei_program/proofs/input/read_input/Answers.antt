@@ -4,7 +4,9 @@ use Rattle.eq_base.specs.Tree.{Tree}
 use Rattle.eq_base.specs.declared.head.Head.{Head}
 use Rattle.symbol_table.specs.Table.{Table, names_of}
 use Rattle.symbol_table.specs.Reading.{read}
-use Rattle.standmath.specs.Refusing.{IsTermAt}
+use Rattle.term_lex.specs.declared.syntax.Syntax.{Syntax}
+use Rattle.written_terms.specs.Refusing.{IsTermAt}
+use Rattle.def_file.specs.Notations.{notation_of}
 use Rattle.written_terms.specs.Answering.{IfRefused}
 use Rattle.written_terms.specs.declared.error.ReadError.{ReadError}
 use Rattle.written_terms.specs.declared.error.ReadError.TheVariants.{Refused, NoMemory}
@@ -14,9 +16,9 @@ use Rattle.ei_program.proofs.Inputs.{not_both}
 use Rattle.ei_program.proofs.input.read_input.Goals as goal
 
 -- a term that is refused, where a text has some byte
-refused : (table : Table) (text : List ℕ) (byte : ℕ) → StandsNext text 0 byte → (error : ReadError) → IfRefused (λ fault. IsTermAt table text 0 (Err fault)) error → IfRefused (HasInputFault table text) error
-refused table text byte stands (Refused fault) why = record { something = not_both text 0 byte stands; why = inl why }
-refused table text byte stands NoMemory why = tt
+refused : (syntax : Syntax) (table : Table) (text : List ℕ) (byte : ℕ) → StandsNext text 0 byte → (error : ReadError) → IfRefused (λ fault. IsTermAt (notation_of syntax) table text 0 (Err fault)) error → IfRefused (HasInputFault syntax table text) error
+refused syntax table text byte stands (Refused fault) why = record { something = not_both text 0 byte stands; why = inl why }
+refused syntax table text byte stands NoMemory why = tt
 
 pub next_byte-requires-2 : goal.next_byte-requires-2
 next_byte-requires-2 c =
@@ -32,5 +34,5 @@ returns-in-Some-next_byte-clause-refused c = record {
 pub returns-in_err-term-clause-refused : goal.returns-in_err-term-clause-refused
 returns-in_err-term-clause-refused c =
     let same : c.from_residual.result ≡ Err c.in_err-term.field-0.0 = search rules in
-    subst (λ (r : Result (Option (Tree Head)) ReadError). IfErr r (IfRefused (HasInputFault (names_of c.args.symbols.now) c.args.text.now))) (sym same)
-    (refused (names_of c.args.symbols.now) c.args.text.now c.in-Some.field-0 c.in-Some.ensures.some c.in_err-term.field-0.0 c.in_err-term.ensures.answer)
+    subst (λ (r : Result (Option (Tree Head)) ReadError). IfErr r (IfRefused (HasInputFault c.args.syntax (names_of c.args.symbols.now) c.args.text.now))) (sym same)
+    (refused c.args.syntax (names_of c.args.symbols.now) c.args.text.now c.in-Some.field-0 c.in-Some.ensures.some c.in_err-term.field-0.0 c.in_err-term.ensures.answer)

@@ -1,8 +1,9 @@
 use Rattle.std.proofs.Common.{◌≡◌, ◌+◌, ◌-◌, ◌∷◌, map, arith, sym, ◌∙◌, ap}
 use Rattle.eq_base.specs.Tree.{nth_subtree, nth_position, size}
 use Rattle.eq_base.proofs.Trees.{argument_of, argument_of-within, argument_of-more}
-use Rattle.orthogonal_laws.proofs.Numbers.{has_node}
-use Rattle.ei_program.proofs.WaysDown.{has_more, way_on}
+use Rattle.eq_base.proofs.Numbers.{has_node}
+use Rattle.eq_base.proofs.Arguments.{has_more}
+use Rattle.ei_program.proofs.WaysDown.{way_on}
 use Rattle.ei_program.proofs.positions.argument_toward.Goals as goal
 
 pub loop-argument-init : goal.loop-argument-init

@@ -1,16 +1,15 @@
-use Rattle.std.proofs.Common.{◌∷◌, [], List, ℕ, ap, ◌∙◌, sym, subst, map, string_bytes}
-use Rattle.std.specs.Prelude.{IfSome, IfNone}
-use Rattle.ei_program.specs.declared.words.Task.{Task}
-use Rattle.ei_program.specs.Words.{IsTask}
-use Rattle.ei_program.proofs.CommandLines.{one_word}
+use Rattle.std.proofs.Common.{ap, ◌∙◌, sym, inr, refl, ◌++◌, ◌∷◌, [], List, ℕ, codes, map, string_bytes, subst}
+use Rattle.ei_program.specs.Words.{syntax_name}
 use Rattle.ei_program.proofs.words.task_of.Goals as goal
 
-pub returns-in-len1-clause-asked : goal.returns-in-len1-clause-asked
-returns-in-len1-clause-asked c =
-    let same = ap (map string_bytes) (one_word c.args.options.now c.option-item.result c.option-item.is c.in-len1.len_at_least c.in-len1.len_below) ∙ ap (λ bytes. bytes ∷ []) (sym c.as_str.ensures.value) in
-    subst (λ (words : List (List ℕ)). IfSome c.option_task.result (IsTask words)) (sym same) c.option_task.ensures.asked
-
-pub returns-in-len1-clause-none : goal.returns-in-len1-clause-none
-returns-in-len1-clause-none c =
-    let same = ap (map string_bytes) (one_word c.args.options.now c.option-item.result c.option-item.is c.in-len1.len_at_least c.in-len1.len_below) ∙ ap (λ bytes. bytes ∷ []) (sym c.as_str.ensures.value) in
-    subst (λ (words : List (List ℕ)). IfNone c.option_task.result ((task : Task) → IsTask words task → ⊥)) (sym same) c.option_task.ensures.none
+pub returns-clause-asked : goal.returns-clause-asked
+returns-clause-asked c =
+    let named = sym c.deref.ensures ∙ c.in-Some-option_syntax.ensures.named in
+    let others = map string_bytes c.in-Some.others.now in
+    record {
+      notation = (codes "--syntax=" ++ syntax_name c.in-Some-option_syntax.syntax) ∷ [];
+      others = others;
+      parts = ap (map string_bytes) c.in-Some.ensures.cases.0 ∙ ap (λ (word : List ℕ). word ∷ others) named;
+      written = inr refl;
+      asked = c.in_ok-mode.ensures.asked;
+    }
