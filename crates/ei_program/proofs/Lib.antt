@@ -2,12 +2,10 @@ mod Answering
 mod Cutting
 mod Meanings
 mod FileEquations
-mod Gathering
 mod Holding
 mod Answers
 mod Refusing
 mod Inputs
-mod Sums
 mod Broken
 mod Loadings
 mod CommandLines
