@@ -6,6 +6,7 @@ mod Holding
 mod Answers
 mod Refusing
 mod Inputs
+mod Sums
 mod Broken
 mod Loadings
 mod CommandLines
