@@ -16,3 +16,4 @@ mod OneGiving
 mod OneInput
 mod OneDue
 mod Exact
+mod WrittenSteps
