@@ -64,8 +64,8 @@ module _ (equations : List (PlainEquation ReadHead)) (none : BreaksNone equation
   on_left e (k, lt, here) proper = of_right e.rule.right proper (none_unbound k e (slice_get-get_or equations k e lt ∙ ap (λ z. Some z) here))
     where
       of_right : (right : RightSide ReadHead) → IsProperRule e.rule.left right → ((at : ℕ) → HasUnbound e.rule.left right at → ⊥) → StandOnLeft e.rule.left right
-      of_right (pattern right) sides no = bound_left e.rule.left right sides.is_pattern no
-      of_right (operation op) sides no = tt
+      of_right (pattern right) sides unbound = bound_left e.rule.left right sides.is_pattern unbound
+      of_right (operation op) sides unbound = tt
 
 pub written_steps : (syntax : Syntax) (text : List ℕ) (d : Definitions) → Defines syntax text d → BreaksNone d.equations → HasWrittenSteps syntax text d
 written_steps syntax text d g none read says t u =
