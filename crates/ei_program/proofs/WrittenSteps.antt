@@ -41,8 +41,7 @@ module _ {A B : Type 0} (f : A → B) where
     patterns-map empty is = tt
     patterns-map (grow p ps) is = (pattern-map p is.0, patterns-map ps is.1)
 
--- where no variable is on the right side alone, each stands on the left: that is so for equations with any other heads,
--- as with one head for all
+-- where no variable is on the right side alone, each stands on the left; heads do not matter, so all are made one
 bound_left : (left right : Tree (PatternCell ReadHead)) → IsPattern left → ((at : ℕ) → HasUnbound left (pattern right) at → ⊥) → StandOnLeft left (pattern right)
 bound_left left right is none =
     let f : ReadHead → Head = λ h. Symbol 0 in
@@ -67,6 +66,7 @@ module _ (equations : List (PlainEquation ReadHead)) (none : BreaksNone equation
       of_right (pattern right) sides unbound = bound_left e.rule.left right sides.is_pattern unbound
       of_right (operation op) sides unbound = tt
 
+-- the root steps by the equations that a file gives are exactly the instances of its items
 pub written_steps : (syntax : Syntax) (text : List ℕ) (d : Definitions) → Defines syntax text d → BreaksNone d.equations → HasWrittenSteps syntax text d
 written_steps syntax text d g none read says t u =
     let lawful = lawful_of syntax in

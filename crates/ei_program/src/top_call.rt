@@ -79,8 +79,8 @@ pub fn ei<F: Files, I: Source, O: Sink, E: Sink>(
         → (¬ Rose (E.faults errors.old) (E.faults errors.new))
         → ComesTo due (E.taken errors.old) (E.taken errors.new) result }
 
-    // By whatever file: the root steps by its equations are exactly the instances of its own items, as they are
-    // written.
+    // By whatever file: the root steps by its equations are exactly the instances of its own items, as they
+    // are written.
     ensures steps { (syntax : Syntax) (file : List ℕ) (d : Definitions) → Defines syntax file d
         → BreaksNone d.equations → HasWrittenSteps syntax file d }
 

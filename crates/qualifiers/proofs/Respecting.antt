@@ -14,6 +14,7 @@ module _ {H : Type 0} (in_class : Classes H) (class_of : ℕ → Option ℕ) (σ
   abbrev pub HasConstant : ℕ → Type 0
   HasConstant x = (class : ℕ) → class_of x ≡ Some class → IsConstantOf in_class class (σ x)
 
+  -- the restricted variable has a constant of the class
   abbrev RespectsOne : ℕ × ℕ → Type 0
   RespectsOne r = IsConstantOf in_class r.1 (σ r.0)
 

@@ -1,4 +1,4 @@
--- The variables of an expansion's equations stand with the same classes on both sides; so its instances are root steps.
+-- In the equations of an expansion each variable stands with one class on both sides; so instances are root steps.
 use Rattle.std.proofs.Common.{ℕ, List, [], ◌∷◌, ◌++◌, map, Option, refl, sym, ap, ◌∙◌, subst, ◌↔◌}
 use Rattle.std.specs.Prelude.{Contains, Some}
 use Rattle.std.specs.List.{AllByRecursion}
@@ -61,6 +61,7 @@ module _ {H : Type 0} where
   StandOnLeft left (pattern right) = (x : ℕ) → Contains (variables right) x → Contains (variables left) x
   StandOnLeft left (operation op) = Unit {0}
 
+  -- the equation has proper sides
   abbrev IsProperOne : Unnumbered H → Type 0
   IsProperOne e = IsProperRule e.rule.left e.rule.right
 
