@@ -17,3 +17,4 @@ mod OneGiving
 mod OneInput
 mod OneDue
 mod Exact
+mod WrittenSteps
