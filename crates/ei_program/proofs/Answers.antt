@@ -1,14 +1,15 @@
 -- The answers of plain runs: the only normal form, or that the budget is spent.
-use Rattle.std.proofs.Common.{◌≡◌, ◌≤◌, ℕ, ◌++◌, refl, sym, subst}
-use Rattle.std.specs.Prelude.{codes, decimal}
-use Rattle.eq_base.specs.Tree.{Tree}
+use Rattle.std.proofs.Common.{◌≡◌, ◌≤◌, ℕ, List, ◌++◌, Result, Ok, Err, refl, sym, ap, subst}
+use Rattle.std.specs.Prelude.{IfOk, codes, decimal}
+use Rattle.eq_base.specs.Tree.{Tree, node, nth_subtree}
 use Rattle.eq_base.specs.Rewriting.{System, IsNormal}
 use Rattle.eq_base.specs.declared.head.Head.{Head}
-use Rattle.symbol_table.specs.Table.{Table, HasOneNumberEach}
+use Rattle.symbol_table.specs.Table.{Table, HasOneNumberEach, names_of}
 use Rattle.symbol_table.specs.Reading.{read, read_system}
 use Rattle.eq_base.specs.ReadHead.{ReadHead}
 use Rattle.orthogonal_laws.specs.Orthogonal.{IsLawful}
 use Rattle.orthogonal_laws.specs.Strategy.{PlainRun, HasLength}
+use Rattle.orthogonal_laws.specs.Past.{HasNoPast, IsFirstPast}
 use Rattle.orthogonal_laws.specs.Run.{IsNormalEnd, IsSpentEnd, IsEnd}
 use Rattle.orthogonal_laws.specs.declared.run.PlainEnd.{PlainEnd}
 use Rattle.orthogonal_laws.specs.declared.run.PlainEnd.TheVariants.{Normal, Spent}
@@ -18,7 +19,8 @@ use Rattle.orthogonal_laws.proofs.RunLaws.{run_found, one_end, spent_right}
 use Rattle.ei_program.specs.declared.loading.Loaded.{Loaded}
 use Rattle.ei_program.specs.Definitions.{Definitions, system, definitions_of}
 use Rattle.ei_program.specs.Loading.{IsReady}
-use Rattle.ei_program.specs.Lines.{ReducesTo, IsSpent}
+use Rattle.ei_program.specs.Printing.{print}
+use Rattle.ei_program.specs.Lines.{ReducesTo, PrintsForm, PrintsPast, IsSpent, ended}
 use Rattle.ei_program.specs.declared.answer.Line.{Line}
 use Rattle.ei_program.specs.declared.answer.LineKind.{LineKind}
 use Rattle.ei_program.specs.declared.answer.LineKind.TheVariants as kinds
@@ -81,3 +83,30 @@ form_line budget d t form line reduced (bytes, prints, is) = (bytes, by_kind lin
     by_kind kinds.NormalForm prints = (form, reduced, prints)
     by_kind kinds.Past prints = (form, reduced, prints)
     by_kind kinds.Spent prints = absurd prints
+
+-- ---- the line of a normal form that is held
+
+-- the first node stands for the whole
+first_part : {A : Type 0} (t : Tree A) → nth_subtree t 0 ≡ t
+first_part (node a ts) = refl
+
+module _ (l : Loaded) (form : Tree Head) where
+  abbrev held : Tree ReadHead
+  held = read l.symbols form
+
+  abbrev part : ℕ → List ℕ
+  part at = print l.syntax (names_of l.symbols) (nth_subtree held at)
+
+  pub prints_past : {E : Type 0} (at : ℕ) → IsFirstPast (read_system l.symbols l.regular) held at → (r : Result Line E) → IfOk r (λ line. line.kind ≡ kinds.Past) → IfOk r (λ line. line.text.items ≡ ended (codes "? past " ++ part at))
+      → IfOk r (IsLineOfForm (definitions_of l) held)
+  prints_past at first (Err e) kind text = tt
+  prints_past at first (Ok line) kind text =
+      let prints : PrintsPast (definitions_of l) held (codes "? past " ++ part at) = record { at = at; first = subst (λ s. IsFirstPast s held at) (sym (system-held l)) first; printed = refl } in
+      (codes "? past " ++ part at, subst (λ k. IsFormLineBy k (definitions_of l) held (codes "? past " ++ part at)) (sym kind) prints, text)
+
+  pub prints_form : {E : Type 0} → HasNoPast (read_system l.symbols l.regular) held → (r : Result Line E) → IfOk r (λ line. line.kind ≡ kinds.NormalForm) → IfOk r (λ line. line.text.items ≡ ended (part 0))
+      → IfOk r (IsLineOfForm (definitions_of l) held)
+  prints_form clean (Err e) kind text = tt
+  prints_form clean (Ok line) kind text =
+      let prints : PrintsForm (definitions_of l) held (part 0) = record { clean = subst (λ s. HasNoPast s held) (sym (system-held l)) clean; printed = ap (print l.syntax (names_of l.symbols)) (first_part held) } in
+      (part 0, subst (λ k. IsFormLineBy k (definitions_of l) held (part 0)) (sym kind) prints, text)

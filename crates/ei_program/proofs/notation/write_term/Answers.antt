@@ -3,7 +3,7 @@ use Rattle.std.specs.Prelude.{OnOk, length}
 use Rattle.eq_base.specs.Tree.{Tree, size, subtrees, nth_subtree}
 use Rattle.eq_base.specs.View.{tree_at}
 use Rattle.eq_base.specs.declared.head.Head.{Head}
-use Rattle.eq_base.proofs.Terms.{tree_at-subtrees}
+use Rattle.std.proofs.lemmas.List.{get_or_default}
 use Rattle.eq_base.proofs.Trees.{length-subtrees, nth_subtree-map_heads}
 use Rattle.term_lex.specs.declared.syntax.Syntax.{Syntax}
 use Rattle.term_lex.specs.declared.syntax.Syntax.TheVariants.{Standmath, LispM}
@@ -17,15 +17,19 @@ use Rattle.ei_program.proofs.notation.write_term.Goals as goal
 there : (t : Tree Head) (node : ℕ) → node < size t → node < length (subtrees t)
 there t node lt = omega (arith, length-subtrees t, lt)
 
+-- the tree of the node is the term's part there
+tree_at-node : (t : Tree Head) (node : ℕ) → node < size t → tree_at (subtrees t) node ≡ nth_subtree t node
+tree_at-node t node lt = get_or_default (subtrees t) node _ t (there t node lt)
+
 -- each number in the term's part there is live
 printable : (table : Table) (t : Tree Head) (node : ℕ) → node < size t → IsLiveTerm table t → IsLiveTerm table (tree_at (subtrees t) node)
-printable table t node lt live = subst (IsLiveTerm table) (sym (tree_at-subtrees t node (there t node lt))) (live_at table t node lt live)
+printable table t node lt live = subst (IsLiveTerm table) (sym (tree_at-node t node lt)) (live_at table t node lt live)
 
 -- the print of a node is that of the term's part there, in the notation that is chosen
 written : {T E : Type 0} (table : Table) (t : Tree Head) (node : ℕ) → node < size t → (syntax chosen : Syntax) → syntax ≡ chosen → (old new : List ℕ) (r : Result T E)
     → OnOk r (new ≡ old ++ print chosen (names_of table) (read table (tree_at (subtrees t) node))) → OnOk r (new ≡ old ++ print syntax (names_of table) (nth_subtree (read table t) node))
 written table t node lt syntax chosen is old new r ok =
-    let part = ap (read table) (tree_at-subtrees t node (there t node lt)) ∙ sym (nth_subtree-map_heads (read_head table) t node lt) in
+    let part = ap (read table) (tree_at-node t node lt) ∙ sym (nth_subtree-map_heads (read_head table) t node lt) in
     subst (λ (s : Syntax). OnOk r (new ≡ old ++ print s (names_of table) (nth_subtree (read table t) node))) (sym is)
     (subst (λ u. OnOk r (new ≡ old ++ print chosen (names_of table) u)) part ok)
 
