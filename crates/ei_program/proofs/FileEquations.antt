@@ -8,7 +8,7 @@ use Rattle.eq_base.specs.Tree.{Tree, Forest, node, empty, grow, count, head_of, 
 use Rattle.eq_base.specs.Pattern.{PatternCell, fixed, variable, restricted, variables, all_variables}
 use Rattle.eq_base.specs.Mapping.{map_cell, map_right}
 use Rattle.eq_base.specs.Meeting.{class_number, in_symbol_class}
-use Rattle.eq_base.specs.Rewriting.{pattern, operation}
+use Rattle.eq_base.specs.Rewriting.{RightSide, pattern, operation}
 use Rattle.eq_base.specs.Operations.{application, compares}
 use Rattle.eq_base.specs.ReadHead.{ReadHead, symbol}
 use Rattle.eq_base.specs.declared.meeting.SymbolClass.TheVariants.{TruthValues}
@@ -159,7 +159,7 @@ module _ (table : Table) where
       (λ choice e is of op right. let plain : pattern (replace of.replacement w.right) ≡ operation op = sym (ap (λ (u : Unnumbered ReadHead). u.rule.right) of.is) ∙ right in cc)
       gives
   given_needs number (Class op byte) es needs none (e, of, is) =
-      let its : HasItsNeeds e = λ other right. let one : operation {H = ReadHead} op ≡ operation other = sym (ap (λ (u : Unnumbered ReadHead). u.rule.right) of.is) ∙ right in subst (HasNeeds table) (let same : op ≡ other = cc in same) needs in
+      let its : HasItsNeeds e = λ other right. let one : ◌≡◌ {A = RightSide ReadHead} (operation op) (operation other) = sym (ap (λ (u : Unnumbered ReadHead). u.rule.right) of.is) ∙ right in subst (HasNeeds table) (let same : op ≡ other = cc in same) needs in
       subst (AllByRecursion HasItsNeeds) (sym is) (its, tt)
 
   -- an operation that compares needs the truth values

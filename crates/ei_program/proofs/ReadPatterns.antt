@@ -57,7 +57,7 @@ module _ (table : Table) where
   operand_back (node (fixed h) ps) x class is = cc
   operand_back (node (variable y) ps) x class is = cc
   operand_back (node (restricted y c) ps) x class is =
-      let cell : restricted {H = ReadHead} y c ≡ restricted x class = ap head_of is in
+      let cell : ◌≡◌ {A = PatternCell ReadHead} (restricted y c) (restricted x class) = ap head_of is in
       let same : y ≡ x = cc in
       let of_class : c ≡ class = cc in
       let none = empty_back (read_head table) ps (ap args_of is) in
