@@ -1,6 +1,6 @@
 -- The equations that a file gives are well formed, and the truth values are declared where the value of an operation is one.
-use Rattle.std.proofs.Common.{◌≡◌, ℕ, zero, suc, ◌+◌, ◌<◌, ◌≤◌, List, [], ◌∷◌, ◌++◌, map, length, refl, sym, ap, ◌∙◌, subst, arith, rules}
-use Rattle.std.specs.Prelude.{Bool, true, false, IsTrue, All, Contains, ◌==◌, ◌&&◌, nat_lt, slice_index_or}
+use Rattle.std.proofs.Common.{◌≡◌, ℕ, zero, suc, ◌+◌, ◌<◌, List, [], ◌∷◌, ◌++◌, map, length, refl, sym, ap, ◌∙◌, subst, arith, rules}
+use Rattle.std.specs.Prelude.{Bool, true, false, IsTrue, Contains, ◌==◌, ◌&&◌, nat_lt, slice_index_or}
 use Rattle.std.specs.List.{AllByRecursion, flat_map}
 use Rattle.std.proofs.lemmas.List.{length-map}
 use Rattle.std.proofs.lemmas.List.Elements.{Contains-append_left, Contains-append_right}
@@ -66,6 +66,7 @@ root-replace θ (node (variable x) ps) (s, is) = cc
 root-replace θ (node (restricted x class) ps) root = root
 
 module _ {H : Type 0} (arity : H → ℕ) where
+  -- as many patterns
   count-replace_all : (θ : Replacement H) (ps : Forest (PatternCell H)) → count (replace_all θ ps) ≡ count ps
   count-replace_all θ empty = refl
   count-replace_all θ (grow p ps) = ap suc (count-replace_all θ ps)
@@ -84,6 +85,7 @@ module _ {H : Type 0} (arity : H → ℕ) where
       all_arities-replace θ ps others (λ x c. each x (Contains-append_right (variables p) (all_variables ps) x c)),
     )
 
+  -- so replaced patterns have them
   arities_kept : IsKept (HasArities arity)
   arities_kept = record { of_variable = λ x. refl; of_replaced = arities-replace }
 
@@ -100,6 +102,7 @@ record IsFit (table : Table) (e : Unnumbered ReadHead) : Type 0 where
   pub arities : HasArities (arity_in table) e.rule.left
   pub applied : (op : Op) → e.rule.right ≡ operation op → (s : ℕ) × (e.rule.left ≡ application op (symbol s))
 
+-- an operation's symbol stands at the root of its application
 application_root : (op : Op) (s : ℕ) → HasSymbol (application op (symbol s))
 application_root AddInt s = (s, refl)
 application_root SubInt s = (s, refl)
@@ -128,6 +131,7 @@ module _ (table : Table) where
   application_arities ConcatStr s has = (has, (refl, (refl, tt)))
   application_arities LengthStr s has = (has, (refl, tt))
 
+  -- each equation of an item is fit
   given_fit : (number : ℕ) (i : ItemOf ReadHead) (es : List (Unnumbered ReadHead)) → IsFitItem table i → HasNoCircle i → Gives symbol table number i es → AllByRecursion (IsFit table) es
   given_fit number (WrittenEquation w) es (root, parts) none gives =
       each_choice (IsFit table) w number es
@@ -153,6 +157,7 @@ module _ (table : Table) where
   abbrev HasItsNeeds : Unnumbered ReadHead → Type 0
   HasItsNeeds e = (op : Op) → e.rule.right ≡ operation op → HasNeeds table op
 
+  -- each equation of an item has what its operation needs
   given_needs : (number : ℕ) (i : ItemOf ReadHead) (es : List (Unnumbered ReadHead)) → IsProperItem table i → HasNoCircle i → Gives symbol table number i es → AllByRecursion HasItsNeeds es
   given_needs number (WrittenEquation w) es proper none gives =
       each_choice HasItsNeeds w number es
@@ -182,19 +187,23 @@ module _ (notation : Notation) (lawful : IsLawful notation) (text : List ℕ) (k
   abbrev IsFitOne : ReadNumbered → Type 0
   IsFitOne n = IsFitItem known.table n.item
 
+  -- a symbol stays at the root where variables have classes
   symbol_root : (classes : List (ℕ × ℕ)) (p : Tree (PatternCell ReadHead)) → IsSymbolApplied p → HasSymbol (map_heads (classed classes) p)
   symbol_root classes (node (fixed (symbol n)) ps) is = (n, refl)
   symbol_root classes p is = absurd is
 
+  -- a side whose limit is kept has a symbol at its root
   side_root : (classes : List (ℕ × ℕ)) (byte : ℕ) (p : Tree (PatternCell ReadHead)) → MeansSide notation text known classes byte p → KeepsLimit notation text known (Application byte) → HasSymbol p
   side_root classes byte p (plain, reads, is) (other, reads', application) =
       let root = symbol_root classes plain (subst IsSymbolApplied (pattern_one lawful text known once byte other plain reads' reads) application) in
       (root.0, ap head_of is ∙ root.1)
 
+  -- a side that is meant has the declared numbers of arguments
   side_arities : (classes : List (ℕ × ℕ)) (byte : ℕ) (p : Tree (PatternCell ReadHead)) → MeansSide notation text known classes byte p → HasArities (arity_in known.table) p
   side_arities classes byte p (plain, (end, reads), is) =
       subst (HasArities (arity_in known.table)) (sym is) (meant_arities known.table known.variables classes (notation.outline reads.written) plain reads.means)
 
+  -- the limits in front, and behind
   keeps_front : (xs ys : List Limit) → KeepsAll notation text known (xs ++ ys) → KeepsAll notation text known xs
   keeps_front [] ys all = tt
   keeps_front (x ∷ xs) ys (here, others) = (here, keeps_front xs ys others)
@@ -203,23 +212,27 @@ module _ (notation : Notation) (lawful : IsLawful notation) (text : List ℕ) (k
   keeps_back [] ys all = all
   keeps_back (x ∷ xs) ys (here, others) = keeps_back xs ys others
 
+  -- an equation that is meant is fit
   equation_fits : (before : ℕ) (sides : Sides) (w : ReadEquation) → MeansEquation notation text known sides w → KeepsAll notation text known (limits_of before sides) → IsFitItem known.table (WrittenEquation w)
   equation_fits before sides w means (few, (application, others)) = (
     side_root means.classes sides.left w.left means.left application,
     parts_have notation text known sides w means (HasArities (arity_in known.table)) (side_arities means.classes),
   )
 
+  -- of operations nothing is asked
   operations_fit : (number : ℕ) (names : List Token) (ns : List ReadNumbered) → AreRelated (MeansOperation text known number) names ns → AllByRecursion IsFitOne ns
   operations_fit number [] [] means = tt
   operations_fit number [] (n ∷ ns) means = absurd means
   operations_fit number (t ∷ ts) [] means = absurd means
   operations_fit number (t ∷ ts) (n ∷ ns) ((op, named, is), others) = (subst IsFitOne (sym is) tt, operations_fit number ts ns others)
 
+  -- the items of one that is written
   item_fits : (before number : ℕ) (i : EquationItem) (ns : List ReadNumbered) → MeansItem notation text known number i ns → KeepsAll notation text known (all_limits before (equation_of i)) → AllByRecursion IsFitOne ns
   item_fits before number (Equates sides) ns (w, means, is) kept =
       subst (AllByRecursion IsFitOne) (sym is) (equation_fits before sides w means (keeps_front (limits_of before sides) [] kept), tt)
   item_fits before number (IncludesOperations include names) ns means kept = operations_fit number names ns means
 
+  -- and of one after another
   items_fit : (before number : ℕ) (is : List EquationItem) (ns : List ReadNumbered) → MeanItems notation text known number is ns → KeepsAll notation text known (all_limits before (flat_map equation_of is)) → AllByRecursion IsFitOne ns
   items_fit before number [] ns none kept = subst (AllByRecursion IsFitOne) (sym none) tt
   items_fit before number (i ∷ is) ns (front, back, split, here, others) kept =
@@ -244,6 +257,7 @@ second_true false b is = cc
 below_two : (s : ℕ) → IsTrue (nat_lt s 2) → s < 2
 below_two s is = search rules
 
+-- the heads of classes have no arguments
 constants : (names table : Table) (class : ℕ) (h : Head) → IsTrue (in_symbol_class class h) → arity_in names (read_head table h) ≡ 0
 constants names table class (Symbol s) is = truth_arity names s (below_two s (second_true (class == class_number TruthValues) (nat_lt s 2) is))
 constants names table class (Numeral i) is = refl
@@ -257,10 +271,12 @@ module _ (table : Table) where
   abbrev read_one : Equation → Unnumbered ReadHead
   read_one e = unnumbered (plain_equation table e)
 
+  -- a right side has as many cells as it is read
   right_cells : (r : Right) → cells_in (map_right (read_head table) (right_side r)) ≡ right_size r
   right_cells (rights.Tree p) = size-map_heads (map_cell (read_head table)) p
   right_cells (rights.Schema op) = refl
 
+  -- an equation that is small and fit as it is read is well formed
   numbered_fits : (names : Table) (e : Equation) → IsSmall (read_one e) → IsFit names (read_one e) → IsWellFormed e
   numbered_fits names e small fit = record {
     left_size = let few = small.left in omega (arith, size-map_heads (map_cell (read_head table)) e.left, few);
@@ -279,6 +295,7 @@ module _ (notation : Notation) (lawful : IsLawful notation) (text : List ℕ) (d
   abbrev equations : List (Unnumbered ReadHead)
   equations = map unnumbered (plain_equations table numbered)
 
+  -- the items that the text says are fit
   items_are_fit : AllByRecursion (λ (n : ReadNumbered). IsFitItem d.names n.item) d.items
   items_are_fit =
       let once = distinct_names lawful text (places_of says.file) says.known says.names in

@@ -16,6 +16,7 @@ use Rattle.symbol_table.specs.Reading.{read_head, read_pattern}
 use Rattle.regularity.specs.Arities.{HasArities, HaveArities}
 use Rattle.regularity.specs.WellFormed.{HasSymbolRoot}
 
+-- no patterns are read of none
 empty_back : (f : Head → ReadHead) (ps : Forest (PatternCell Head)) → ◌≡◌ {A = Forest (PatternCell ReadHead)} (map_all_heads (map_cell f) ps) empty → ps ≡ empty
 empty_back f empty e = refl
 empty_back f (grow p ps) e = cc
@@ -32,6 +33,7 @@ module _ (arity : ReadHead → ℕ) (f : Head → ReadHead) where
     all_arities_back empty all = tt
     all_arities_back (grow p ps) (first, others) = (arities_back p first, all_arities_back ps others)
 
+-- a symbol stands at the root where one is read
 pub root_back : (table : Table) (p : Tree (PatternCell Head)) (s : ℕ) → head_of (read_pattern table p) ≡ fixed (symbol s) → HasSymbolRoot p
 root_back table (node (fixed (Symbol n)) ps) s is = (n, refl)
 root_back table (node (fixed (Numeral n)) ps) s is = cc
@@ -53,6 +55,7 @@ module _ (table : Table) where
   abbrev read_cell : PatternCell Head → PatternCell ReadHead
   read_cell c = map_cell (read_head table) c
 
+  -- one operand
   operand_back : (p : Tree (PatternCell Head)) (x class : ℕ) → read_pattern table p ≡ node (restricted x class) empty → p ≡ node (restricted x class) empty
   operand_back (node (fixed h) ps) x class is = cc
   operand_back (node (variable y) ps) x class is = cc
@@ -63,6 +66,7 @@ module _ (table : Table) where
       let none = empty_back (read_head table) ps (ap args_of is) in
       λ i. node (restricted (same i) (of_class i)) (none i)
 
+  -- one operand alone
   one_back : (ps : Forest (PatternCell Head)) (x class : ℕ) → map_all_heads read_cell ps ≡ grow (node (restricted x class) empty) empty → ps ≡ grow (node (restricted x class) empty) empty
   one_back empty x class is = cc
   one_back (grow p ps) x class is =
@@ -72,6 +76,7 @@ module _ (table : Table) where
       let rest = empty_back (read_head table) ps later in
       λ i. grow (first i) (rest i)
 
+  -- two operands
   two_back : (ps : Forest (PatternCell Head)) (class : ℕ) → map_all_heads read_cell ps ≡ grow (node (restricted 0 class) empty) (grow (node (restricted 1 class) empty) empty) → ps ≡ grow (node (restricted 0 class) empty) (grow (node (restricted 1 class) empty) empty)
   two_back empty class is = cc
   two_back (grow p ps) class is =
@@ -81,6 +86,7 @@ module _ (table : Table) where
       let rest = one_back ps 1 class later in
       λ i. grow (first i) (rest i)
 
+  -- a symbol over operands
   over_back : (p : Tree (PatternCell Head)) (s : ℕ) (os : Forest (PatternCell ReadHead)) (qs : Forest (PatternCell Head)) → ((ps : Forest (PatternCell Head)) → map_all_heads read_cell ps ≡ os → ps ≡ qs) → read_pattern table p ≡ node (fixed (symbol s)) os → p ≡ node (fixed (Symbol s)) qs
   over_back (node (fixed h) ps) s os qs back is =
       let cell : fixed (read_head table h) ≡ fixed (symbol s) = ap head_of is in
@@ -90,6 +96,7 @@ module _ (table : Table) where
   over_back (node (variable x) ps) s os qs back is = cc
   over_back (node (restricted x class) ps) s os qs back is = cc
 
+  -- an operation's symbol over two operands
   over_two : (op : Op) (p : Tree (PatternCell Head)) (s : ℕ) → read_pattern table p ≡ node (fixed (symbol s)) (grow (operand op 0) (grow (operand op 1) empty)) → p ≡ node (fixed (Symbol s)) (grow (operand op 0) (grow (operand op 1) empty))
   over_two op p s is = over_back p s (grow (operand op 0) (grow (operand op 1) empty)) (grow (operand op 0) (grow (operand op 1) empty)) (λ ps e. two_back ps (class_number (operand_class op)) e) is
 
