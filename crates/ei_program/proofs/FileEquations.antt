@@ -1,4 +1,4 @@
--- The equations that a file gives are well formed, and the truth values are declared where the value of an operation is one.
+-- The equations of a file are well formed, and the truth values are declared where an operation needs them.
 use Rattle.std.proofs.Common.{◌≡◌, ℕ, zero, suc, ◌+◌, ◌<◌, List, [], ◌∷◌, ◌++◌, map, length, refl, sym, ap, ◌∙◌, subst, arith, rules}
 use Rattle.std.specs.Prelude.{Bool, true, false, IsTrue, Contains, ◌==◌, ◌&&◌, nat_lt, slice_index_or}
 use Rattle.std.specs.List.{AllByRecursion, flat_map}
@@ -93,7 +93,8 @@ module _ {H : Type 0} (arity : H → ℕ) where
 
 -- what is known of an item: a symbol at the root of its left side, and the table's numbers of arguments
 abbrev IsFitItem : Table → ItemOf ReadHead → Type 0
-IsFitItem table (WrittenEquation w) = HasSymbol w.left × AllByRecursion (HasArities (arity_in table)) (parts_of w)
+IsFitItem table (WrittenEquation w) =
+    HasSymbol w.left × AllByRecursion (HasArities (arity_in table)) (parts_of w)
 IsFitItem table (Class op byte) = Unit {0}
 
 -- what is known of an equation
