@@ -7,6 +7,7 @@ mod Holding
 mod Answers
 mod Refusing
 mod Inputs
+mod Sums
 mod Broken
 mod Loadings
 mod CommandLines
@@ -17,3 +18,4 @@ mod OneGiving
 mod OneInput
 mod OneDue
 mod Exact
+mod WrittenSteps
