@@ -1,6 +1,7 @@
 mod Answering
 mod Cutting
 mod Meanings
+mod ReadPatterns
 mod FileEquations
 mod Holding
 mod Answers

@@ -21,8 +21,8 @@ use Rattle.qualifiers.specs.Expansion.{PlainEquation, unnumbered, HasNoCircle, G
 use Rattle.qualifiers.proofs.Members.{contains_first, map_contains, contains_map, all_of, got_map, map_got}
 use Rattle.qualifiers.proofs.Respecting.{respects_over}
 use Rattle.qualifiers.proofs.Replacements.{by_choice, made_chosen, made_free}
-use Rattle.qualifiers.proofs.Chosen.{is_choice, no_circle}
-use Rattle.qualifiers.proofs.Instances.{left_classes, right_classes, is_part, side_classes}
+use Rattle.qualifiers.proofs.Chosen.{is_choice, no_circle, chosen_part}
+use Rattle.qualifiers.proofs.Instances.{left_classes, right_classes, side_classes}
 use Rattle.qualifiers.proofs.Theorem.{related_from}
 
 module _ {H : Type 0} where
@@ -76,7 +76,7 @@ module _ {H : Type 0} where
         let θ = of.replacement in
         let each : (x : ℕ) → IsPattern (θ x) = by_choice choice grounded (λ x. IsPattern (θ x))
         (λ x free. subst IsPattern (sym (made_free choice grounded θ of.makes x free)) refl)
-        (λ x a chosen_is below. subst IsPattern (sym (made_chosen choice grounded θ of.makes x a chosen_is)) (pattern-replace θ a (all_contained IsPattern (parts_of w) a proper.patterns (is_part in_class w proper none choice is x a chosen_is)) below)) in
+        (λ x a chosen_is below. subst IsPattern (sym (made_chosen choice grounded θ of.makes x a chosen_is)) (pattern-replace θ a (all_contained IsPattern (parts_of w) a proper.patterns (chosen_part w choice is x a chosen_is)) below)) in
         let classes = side_classes in_class w proper none choice is θ of.makes in
         let sides : AreProperSides (replace θ w.left) (replace θ w.right) = record {
           is_pattern = pattern-replace θ w.left proper.patterns.0 (λ x c. each x);
