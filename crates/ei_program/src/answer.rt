@@ -57,14 +57,7 @@ fn printed(
 {
     let mut text = Vec::new(alloc);
     text.extend_from_slice(front)?;
-    write_term(
-        alloc,
-        loaded.syntax,
-        &loaded.symbols,
-        term,
-        node,
-        &mut text,
-    )?;
+    write_term(alloc, loaded.syntax, &loaded.symbols, term, node, &mut text)?;
     text.push(b'\n')?;
     Ok(Line { kind, text })
 }

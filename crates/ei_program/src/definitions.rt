@@ -39,7 +39,9 @@ pub fn read_equations(alloc: Global, syntax: Syntax, text: &[u8]) -> Result<Equa
     let definitions = read_definitions(alloc, text, syntax)?;
     let rules = expand(alloc, &definitions)?;
     let Definitions {
-        symbols, variables, ..
+        symbols,
+        variables,
+        ..
     } = definitions;
     Ok(Equations {
         syntax,

@@ -353,7 +353,10 @@ fn refused_files(rt: HostRuntime) -> Result<(), Fail> {
             "Symbols f: 1; s: 1; a: 0. For all x: f(x) = a where x is either s(x) end or end where.",
             "ei: equations refused: QualifierCircle at byte 52\n",
         ),
-        (MANY_CHOICES, "ei: equations refused: ExpansionPast at byte 76\n"),
+        (
+            MANY_CHOICES,
+            "ei: equations refused: ExpansionPast at byte 76\n",
+        ),
     ] {
         let row = Row {
             file,
@@ -371,13 +374,7 @@ fn refused_files(rt: HostRuntime) -> Result<(), Fail> {
 fn lists(rt: HostRuntime) -> Result<(), Fail> {
     let words = ["--syntax=lisp.m", "E"];
     for (file, input, status, output, errors) in [
-        (
-            APPEND,
-            "append[(1 2); (3 . 4)].",
-            0,
-            "(1 2 3 . 4)\n",
-            "",
-        ),
+        (APPEND, "append[(1 2); (3 . 4)].", 0, "(1 2 3 . 4)\n", ""),
         (APPEND, "cons[1; nil].", 0, "(1)\n", ""),
         (APPEND, "append[(); ()].", 0, "()\n", ""),
         (
