@@ -1,5 +1,5 @@
 -- A break that equations have names two of them, and a place of one.
-use Rattle.std.proofs.Common.{Bool, true, false, arith, ap, ◌∙◌, ◌≡◌, ℕ, ◌<◌, List, inl, inr, refl, sym, subst, Some}
+use Rattle.std.proofs.Common.{Bool, true, false, ap, ◌∙◌, ◌≡◌, ℕ, ◌<◌, List, inl, inr, refl, sym, subst, Some}
 use Rattle.std.specs.Prelude.{slice_get, ◌==◌, if◌then◌else◌}
 use Rattle.std.proofs.lemmas.Bool.{eqb-true}
 use Rattle.std.proofs.lemmas.Option.{slice_get_within, get_or_from_slice_get}

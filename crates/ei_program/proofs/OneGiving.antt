@@ -16,7 +16,7 @@ use Rattle.def_file.proofs.OneAnswer.{says_distinct, says_one}
 use Rattle.qualifiers.specs.Expansion.{PlainEquation}
 use Rattle.qualifiers.specs.AsRead.{IsExpanding}
 use Rattle.qualifiers.proofs.OneExpansion.{one_expansion}
-use Rattle.ei_program.specs.Definitions.{Definitions, Defines, HasExpansionFault, RefusesFile}
+use Rattle.ei_program.specs.Definitions.{Definitions, Defines, RefusesFile}
 
 module _ (syntax : Syntax) (text : List ℕ) where
   abbrev notation : Notation

@@ -1,10 +1,10 @@
 use Rattle.std.specs.Prelude.{IfOk, codes, decimal}
-use Rattle.std.proofs.Common.{rules, ◌≡◌, ◌++◌, Result, Ok, Err, sym, subst}
+use Rattle.std.proofs.Common.{rules, ◌++◌, Result, Ok, Err, subst}
 use Rattle.symbol_table.specs.Reading.{read}
 use Rattle.orthogonal_laws.specs.Run.{IsLiveEnd}
 use Rattle.ei_program.specs.declared.answer.Line.{Line}
 use Rattle.ei_program.specs.Definitions.{Definitions, definitions_of}
-use Rattle.ei_program.specs.Answering.{IsLineOf, IsLineOfForm}
+use Rattle.ei_program.specs.Answering.{IsLineOfForm}
 use Rattle.ei_program.proofs.Holding.{definitions-kept, ready_kept}
 use Rattle.ei_program.proofs.Answers.{reduced, spent_line, form_line}
 use Rattle.ei_program.proofs.answer.line_of.Goals as goal

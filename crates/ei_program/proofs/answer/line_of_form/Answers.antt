@@ -1,5 +1,4 @@
 use Rattle.std.proofs.Common.{◌<◌, subst}
-use Rattle.eq_base.specs.Tree.{size}
 use Rattle.eq_base.proofs.Numbers.{has_node}
 use Rattle.eq_base.proofs.Trees.{size-map_heads}
 use Rattle.symbol_table.specs.Reading.{read_head}
