@@ -1,5 +1,7 @@
 use crate::{Break, are_well_formed, check_single, overlaps, tell_singles};
-use eq_base::{Cell, Equation, Head, NoMemory, Origin, Pattern, PatternMaker, Right, Rules};
+use eq_base::{
+    Cell, Classes, Equation, Head, NoMemory, Origin, Pattern, PatternMaker, Right, Rules,
+};
 use std::alloc::Global;
 use std::test::Fail;
 
@@ -13,7 +15,7 @@ fn over(alloc: Global, symbol: u32, variable: u32) -> Result<Pattern, NoMemory> 
 
 // The equations 2(x) = 3(x), 2(x) = 2(x) and 3(x) = 2(y).
 fn equations(alloc: Global) -> Result<Rules, NoMemory> {
-    let mut rules = Rules::new(alloc);
+    let mut rules = Rules::new(alloc, Classes::new(alloc));
     for (left, right, variable) in [(2, 3, 0), (2, 2, 0), (3, 2, 1)] {
         rules.push(Equation {
             left: over(alloc, left, 0)?,

@@ -2,7 +2,9 @@ ghost use Rattle.eq_base.specs.Cells.{CellTakesArguments};
 ghost use Rattle.regularity.specs.WellFormed.{AreWellFormed};
 
 use crate::{AdmitError, Comparison, Regular, compare};
-use eq_base::{Cell, Equation, Head, NoMemory, Origin, Pattern, PatternMaker, Right, Rules};
+use eq_base::{
+    Cell, Classes, Equation, Head, NoMemory, Origin, Pattern, PatternMaker, Right, Rules,
+};
 use regularity::{Breaks, are_well_formed};
 use std::alloc::Global;
 use std::test::Fail;
@@ -61,7 +63,7 @@ fn pattern(alloc: Global, letters: &str) -> Result<Option<Pattern>, NoMemory> {
 
 // The equations with these sides, if they are equations.
 fn rules_of(alloc: Global, sides: &[(&str, &str)]) -> Result<Option<Rules>, NoMemory> {
-    let mut rules = Rules::new(alloc);
+    let mut rules = Rules::new(alloc, Classes::new(alloc));
     for (left, right) in sides {
         let Some(left) = pattern(alloc, left)? else {
             return Ok(None);
@@ -107,7 +109,7 @@ fn compared(rules: &Rules, place: usize) -> Option<Comparison>
     let one = rules.equation(0);
     let other = rules.equation(1);
     if place < one.left.len() {
-        Some(compare(&one.left, place, &other.left))
+        Some(compare(rules.classes(), &one.left, place, &other.left))
     } else {
         None
     }
