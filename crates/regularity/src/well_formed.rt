@@ -24,9 +24,10 @@ pub fn are_well_formed(rules: &Rules, arities: &[u8]) -> bool
     ensures exact { IsTrue result ↔ AreWellFormedBy arities.now rules.now }
     ensures well_formed { IsTrue result → AreWellFormed rules.now }
 {
+    let classes = rules.classes();
     if rules.len() > MOST_EQUATIONS
-        || rules.classes().len() > MOST_CLASSES
-        || !gives_constants_none(rules.classes(), arities)
+        || classes.len() > MOST_CLASSES
+        || !gives_constants_none(classes, arities)
     {
         return false;
     }
