@@ -26,6 +26,20 @@ fn equations(alloc: Global) -> Result<Rules, NoMemory> {
     Ok(rules)
 }
 
+#[test]
+fn members_take_no_arguments(rt: HostRuntime) -> Result<(), Fail> {
+    let mut classes = Classes::new(rt.alloc());
+    let _none = classes.begin()?;
+    let class = classes.begin()?;
+    assert!(rt; classes.add(class, Head::Numeral(2))?);
+    assert!(rt; classes.add(class, Head::Symbol(2))?);
+    let rules = Rules::new(rt.alloc(), classes);
+    for (arity, wanted) in [(0, true), (1, false)] {
+        assert_eq!(rt; are_well_formed(&rules, &[0, 0, arity]), wanted);
+    }
+    Ok(())
+}
+
 // Each public call once; the tests of `sequentiality` have more lists of equations.
 #[test]
 fn breaks_are_listed(rt: HostRuntime) -> Result<(), Fail> {
