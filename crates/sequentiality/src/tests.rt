@@ -70,9 +70,10 @@ fn classes(alloc: Global) -> Result<Classes, NoMemory> {
     let first = classes.begin()?;
     let second = classes.begin()?;
     let _none = classes.begin()?;
-    for (class, letter) in [(first, b'0'), (first, b'1'), (second, b'1'), (second, b'2')] {
-        classes.add(class, Head::Numeral(i128::from(letter)))?;
-    }
+    classes.add(first, Head::Numeral(i128::from(b'0')))?;
+    classes.add(first, Head::Numeral(i128::from(b'1')))?;
+    classes.add(second, Head::Numeral(i128::from(b'1')))?;
+    classes.add(second, Head::Numeral(i128::from(b'2')))?;
     Ok(classes)
 }
 
