@@ -9,7 +9,7 @@ ghost use Rattle.orthogonal_laws.specs.Operations.{AreTruthsKnown};
 use crate::{Next, PlainEnd, first_past, plain_next, plain_run};
 use builtin::schema_left;
 use eq_base::{
-    Cell, Equation, Flat, FlatMaker, Head, NoMemory, Op, Origin, Pattern, PatternMaker, Right,
+    Cell, Classes, Equation, Flat, FlatMaker, Head, NoMemory, Op, Origin, Pattern, PatternMaker, Right,
     Rules, same_tree,
 };
 use regularity::are_well_formed;
@@ -86,7 +86,7 @@ fn add_operation(alloc: Global, rules: &mut Rules, op: Op, symbol: u8) -> Result
 
 // Equations with these sides, and those of operations, if they are equations.
 fn rules_of(alloc: Global, sides: &[(&str, &str)]) -> Result<Option<Rules>, NoMemory> {
-    let mut rules = Rules::new(alloc);
+    let mut rules = Rules::new(alloc, Classes::new(alloc));
     for (left, right) in sides {
         let Some(left) = pattern(alloc, left)? else {
             return Ok(None);
