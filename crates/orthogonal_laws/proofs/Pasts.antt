@@ -1,5 +1,5 @@
 -- Which nodes are past the limits: those where the first left side that is met is that of an operation whose value is.
-use Rattle.std.proofs.Common.{◌≡◌, ℕ, List, [], ◌∷◌, cond, eq-eqb, Some, None, Bool, true, false, refl, sym, ◌∙◌, ap, subst, arith, ⊎_elim}
+use Rattle.std.proofs.Common.{◌≡◌, ℕ, [], ◌∷◌, cond, eq-eqb, Some, None, Bool, true, false, refl, sym, ◌∙◌, ap, subst, arith, ⊎_elim}
 use Rattle.std.specs.Prelude.{slice_get, Contains, IsTrue, IsFalse, slice_index_or, nat_eq}
 use Rattle.std.specs.declared.option.Option.{Option}
 use Rattle.std.proofs.lemmas.Bool.{cases_lt, eqb-true}

@@ -1,5 +1,5 @@
 -- Nodes on a way down that came to no redex have no demanded redex.
-use Rattle.std.proofs.Common.{◌≡◌, ℕ, suc, ◌+◌, ◌-◌, ◌<◌, ◌≤◌, List, [], Some, refl, subst, arith, max}
+use Rattle.std.proofs.Common.{◌≡◌, ℕ, suc, ◌+◌, ◌-◌, ◌<◌, ◌≤◌, [], Some, refl, subst, arith, max}
 use Rattle.eq_base.specs.Tree.{Tree, node, args_of, size, total_size, nth_subtree, subtree_in}
 use Rattle.eq_base.specs.Storing.{first_trees}
 use Rattle.eq_base.specs.declared.head.Head.{Head}

@@ -62,7 +62,7 @@ module _ (table : Table) (one : HasOneNumberEach table) (rules : RuleList) (live
   pub applied_there : (op : Op) → e.right ≡ rights.Schema op → (f : Head) × HasShapeOf (application op f) s
   applied_there op is =
       let a = applied_of rules regular n e there op is in
-      (a.0, in_class_of rules.classes, subst (λ p. IsInstanceOf (in_class_of rules.classes) p s) a.1 fits_there)
+      (a.0, (in_class_of rules.classes, subst (λ p. IsInstanceOf (in_class_of rules.classes) p s) a.1 fits_there))
 
   rule_there : redex_there.1.rule ≡ read_rule table e
   rule_there = some_same redex_there.1.rule (read_rule table e) (sym redex_there.1.listed ∙ slice_get-map (read_rule table) rules.equations n ∙ ap (option_map (read_rule table)) there)

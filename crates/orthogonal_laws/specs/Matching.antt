@@ -1,7 +1,8 @@
 -- Words of private functions alone: when a left side is met by a tree, and where it is first not met.
 use Rattle.std.specs.Prelude.{◌≡◌, ◌⊎◌, ℕ, suc, ◌+◌, ◌≤◌, List, Some, slice_get}
 use Rattle.eq_base.specs.Tree.{Tree, Forest, node, empty, grow, head_of, arity_of, count, size}
-use Rattle.eq_base.specs.Pattern.{PatternCell, fixed, variable, restricted, Classes, IsConstantOf, IsInstanceOf}
+use Rattle.eq_base.specs.Pattern.{PatternCell, fixed, variable, restricted, Classes}
+use Rattle.eq_base.specs.Pattern.{IsConstantOf, IsInstanceOf}
 use Rattle.eq_base.specs.Testing.{MeetsRoot}
 use Rattle.eq_base.specs.Meeting.{in_class_of}
 use Rattle.eq_base.specs.RuleList.{RuleList}

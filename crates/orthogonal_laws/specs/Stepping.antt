@@ -1,5 +1,5 @@
 -- Words of private functions alone: a step at a node, as it is read.
-use Rattle.std.specs.Prelude.{◌≡◌, ℕ, ◌+◌, ◌≤◌, List, [], ◌++◌, length, slice_index_or}
+use Rattle.std.specs.Prelude.{◌≡◌, ℕ, ◌+◌, ◌≤◌, [], ◌++◌, length, slice_index_or}
 use Rattle.eq_base.specs.Limits.{most_text_bytes}
 use Rattle.eq_base.specs.Tree.{Tree, nth_subtree, nth_position, replace_at}
 use Rattle.eq_base.specs.Rewriting.{RootStepBy}

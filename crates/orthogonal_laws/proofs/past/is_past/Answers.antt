@@ -16,7 +16,7 @@ pub value_at-requires-clause-applied : goal.value_at-requires-clause-applied
 value_at-requires-clause-applied c =
     let a = applied_of c.args.rules.now c.requires.regular c.in-Meets.number c.equation.result.now c.equation.ensures c.in-Schema.op c.in-Schema.is in
     let same = some_same c.in-Meets.ensures.equation c.equation.result.now (sym c.in-Meets.ensures.listed ∙ c.equation.ensures) in
-    (a.0, in_class_of c.args.rules.now.classes, subst (λ p. IsInstanceOf (in_class_of c.args.rules.now.classes) p (nth_subtree c.args.term.now c.args.at)) a.1 (subst (λ e. IsInstanceOf (in_class_of c.args.rules.now.classes) e.left (nth_subtree c.args.term.now c.args.at)) same c.in-Meets.ensures.met))
+    (a.0, (in_class_of c.args.rules.now.classes, subst (λ p. IsInstanceOf (in_class_of c.args.rules.now.classes) p (nth_subtree c.args.term.now c.args.at)) a.1 (subst (λ e. IsInstanceOf (in_class_of c.args.rules.now.classes) e.left (nth_subtree c.args.term.now c.args.at)) same c.in-Meets.ensures.met)))
 
 pub returns-in-Fails : goal.returns-in-Fails
 returns-in-Fails c = (
