@@ -9,8 +9,8 @@ ghost use Rattle.orthogonal_laws.specs.Operations.{AreTruthsKnown};
 use crate::{Next, PlainEnd, first_past, plain_next, plain_run};
 use builtin::schema_left;
 use eq_base::{
-    Cell, Classes, Equation, FIRST_CLASS, Flat, FlatMaker, Head, NoMemory, Op, Origin, Pattern, PatternMaker, Right,
-    Rules, same_tree,
+    Cell, Classes, Equation, FIRST_CLASS, Flat, FlatMaker, Head, NoMemory, Op, Origin, Pattern,
+    PatternMaker, Right, Rules, same_tree,
 };
 use regularity::are_well_formed;
 use sequentiality::Regular;
