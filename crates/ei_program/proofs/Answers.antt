@@ -1,15 +1,15 @@
 -- The answers of plain runs: the only normal form, or that the budget is spent.
-use Rattle.std.proofs.Common.{◌≡◌, ◌≤◌, ℕ, ◌++◌, refl, sym, subst}
-use Rattle.std.specs.Prelude.{codes, decimal}
-use Rattle.eq_base.specs.Tree.{Tree}
+use Rattle.std.proofs.Common.{◌≡◌, ◌≤◌, ℕ, List, ◌++◌, Result, Ok, Err, refl, sym, ap, subst}
+use Rattle.std.specs.Prelude.{IfOk, codes, decimal}
+use Rattle.eq_base.specs.Tree.{Tree, node, nth_subtree}
 use Rattle.eq_base.specs.Rewriting.{System, IsNormal}
 use Rattle.eq_base.specs.declared.head.Head.{Head}
-use Rattle.symbol_table.specs.Table.{Table, HasOneNumberEach}
+use Rattle.symbol_table.specs.Table.{Table, HasOneNumberEach, names_of}
 use Rattle.symbol_table.specs.Reading.{read, read_system}
 use Rattle.eq_base.specs.ReadHead.{ReadHead}
-use Rattle.ei_program.specs.Printing.{print}
 use Rattle.orthogonal_laws.specs.Orthogonal.{IsLawful}
 use Rattle.orthogonal_laws.specs.Strategy.{PlainRun, HasLength}
+use Rattle.orthogonal_laws.specs.Past.{HasNoPast, IsFirstPast}
 use Rattle.orthogonal_laws.specs.Run.{IsNormalEnd, IsSpentEnd, IsEnd}
 use Rattle.orthogonal_laws.specs.declared.run.PlainEnd.{PlainEnd}
 use Rattle.orthogonal_laws.specs.declared.run.PlainEnd.TheVariants.{Normal, Spent}
@@ -19,21 +19,24 @@ use Rattle.orthogonal_laws.proofs.RunLaws.{run_found, one_end, spent_right}
 use Rattle.ei_program.specs.declared.loading.Loaded.{Loaded}
 use Rattle.ei_program.specs.Definitions.{Definitions, system, definitions_of}
 use Rattle.ei_program.specs.Loading.{IsReady}
-use Rattle.ei_program.specs.Lines.{IsNormalForm, IsSpent}
+use Rattle.ei_program.specs.Printing.{print}
+use Rattle.ei_program.specs.Lines.{ReducesTo, PrintsForm, PrintsPast, IsSpent, ended}
+use Rattle.ei_program.specs.declared.answer.Line.{Line}
+use Rattle.ei_program.specs.declared.answer.LineKind.{LineKind}
+use Rattle.ei_program.specs.declared.answer.LineKind.TheVariants as kinds
+use Rattle.ei_program.specs.Answering.{IsFormLineBy, IsLineOfForm, IsLineBy, IsLineOf}
 use Rattle.ei_program.proofs.Holding.{system-held}
 
 module _ (d : Definitions) (lawful : IsLawful (system d)) (budget : ℕ) (t : Tree ReadHead) where
   -- a plain run that ends within the budget ends in the only normal form
-  pub normal_form : (form : Tree ReadHead) (steps : ℕ) → HasLength (system d) t steps form → steps ≤ budget → IsNormalForm budget d t (print d.syntax d.names form)
-  normal_form form steps length within = record {
-    form = form;
+  pub reduces : (form : Tree ReadHead) (steps : ℕ) → HasLength (system d) t steps form → steps ≤ budget → ReducesTo budget d t form
+  reduces form steps length within = record {
     derivable = (steps, run-derivation length.run);
     normal = length.normal;
     only = λ other derivable is_normal. one_end (system d) lawful.well_formed lawful.orthogonal t other form derivable is_normal (steps, run-derivation length.run) length.normal;
     steps = steps;
     length = length;
     within = within;
-    printed = refl;
   }
 
   -- a plain run that is not at its end after the whole budget is longer
@@ -58,11 +61,11 @@ module _ (l : Loaded) (ready : IsReady l) (one : HasOneNumberEach l.symbols) (bu
   lawful : IsLawful (system d)
   lawful = subst IsLawful (sym (system-held l)) (read_lawful l.symbols l.regular (record { regular = ready.regular; live = ready.live; distinct = one }))
 
-  pub normal_line : (form : Tree Head) (n : ℕ) → end ≡ Normal form n → IsNormalForm budget d (read l.symbols t) (print d.syntax d.names (read new form))
-  normal_line form n is =
+  pub reduced : (form : Tree Head) (n : ℕ) → end ≡ Normal form n → ReducesTo budget d (read l.symbols t) (read new form)
+  reduced form n is =
       let at_end : IsNormalEnd new end (read new form) n = subst (λ e. IsNormalEnd new e (read new form) n) (sym is) (refl, refl) in
       let run = (is_end.normal (read new form) n).0 at_end in
-      normal_form d lawful budget (read l.symbols t) (read new form) n (subst (λ s. HasLength s (read l.symbols t) n (read new form)) (sym (system-held l)) run.0) run.1
+      reduces d lawful budget (read l.symbols t) (read new form) n (subst (λ s. HasLength s (read l.symbols t) n (read new form)) (sym (system-held l)) run.0) run.1
 
   pub spent_line : (last : Tree Head) → end ≡ Spent last → IsSpent budget d (read l.symbols t) (codes "? spent " ++ decimal budget)
   spent_line last is =
@@ -71,3 +74,39 @@ module _ (l : Loaded) (ready : IsReady l) (one : HasOneNumberEach l.symbols) (bu
       let P = λ (s : System ReadHead). PlainRun s (read l.symbols t) budget (read new last) × (IsNormal s (read new last) → ⊥) in
       let held = subst P (sym (system-held l)) run in
       spent d lawful budget (read l.symbols t) (read new last) held.0 held.1
+
+-- the line of the normal form to which a term reduces is the term's line
+pub form_line : (budget : ℕ) (d : Definitions) (t form : Tree ReadHead) (line : Line) → ReducesTo budget d t form → IsLineOfForm d form line → IsLineOf budget d t line
+form_line budget d t form line reduced (bytes, prints, is) = (bytes, by_kind line.kind prints, is)
+  where
+    by_kind : (kind : LineKind) → IsFormLineBy kind d form bytes → IsLineBy budget kind d t bytes
+    by_kind kinds.NormalForm prints = (form, reduced, prints)
+    by_kind kinds.Past prints = (form, reduced, prints)
+    by_kind kinds.Spent prints = absurd prints
+
+-- ---- the line of a normal form that is held
+
+-- the first node stands for the whole
+first_part : {A : Type 0} (t : Tree A) → nth_subtree t 0 ≡ t
+first_part (node a ts) = refl
+
+module _ (l : Loaded) (form : Tree Head) where
+  abbrev held : Tree ReadHead
+  held = read l.symbols form
+
+  abbrev part : ℕ → List ℕ
+  part at = print l.syntax (names_of l.symbols) (nth_subtree held at)
+
+  pub prints_past : {E : Type 0} (at : ℕ) → IsFirstPast (read_system l.symbols l.regular) held at → (r : Result Line E) → IfOk r (λ line. line.kind ≡ kinds.Past) → IfOk r (λ line. line.text.items ≡ ended (codes "? past " ++ part at))
+      → IfOk r (IsLineOfForm (definitions_of l) held)
+  prints_past at first (Err e) kind text = tt
+  prints_past at first (Ok line) kind text =
+      let prints : PrintsPast (definitions_of l) held (codes "? past " ++ part at) = record { at = at; first = subst (λ s. IsFirstPast s held at) (sym (system-held l)) first; printed = refl } in
+      (codes "? past " ++ part at, subst (λ k. IsFormLineBy k (definitions_of l) held (codes "? past " ++ part at)) (sym kind) prints, text)
+
+  pub prints_form : {E : Type 0} → HasNoPast (read_system l.symbols l.regular) held → (r : Result Line E) → IfOk r (λ line. line.kind ≡ kinds.NormalForm) → IfOk r (λ line. line.text.items ≡ ended (part 0))
+      → IfOk r (IsLineOfForm (definitions_of l) held)
+  prints_form clean (Err e) kind text = tt
+  prints_form clean (Ok line) kind text =
+      let prints : PrintsForm (definitions_of l) held (part 0) = record { clean = subst (λ s. HasNoPast s held) (sym (system-held l)) clean; printed = ap (print l.syntax (names_of l.symbols)) (first_part held) } in
+      (part 0, subst (λ k. IsFormLineBy k (definitions_of l) held (part 0)) (sym kind) prints, text)

@@ -1,9 +1,10 @@
 -- A break that equations have names two of them, and a place of one.
-use Rattle.std.proofs.Common.{Bool, true, false, arith, ap, ◌∙◌, ◌≡◌, ℕ, ◌<◌, List, inl, inr, refl, sym, subst, Some}
+use Rattle.std.proofs.Common.{Bool, true, false, ap, ◌∙◌, ◌≡◌, ℕ, ◌<◌, List, inl, inr, refl, sym, subst, Some}
 use Rattle.std.specs.Prelude.{slice_get, ◌==◌, if◌then◌else◌}
 use Rattle.std.proofs.lemmas.Bool.{eqb-true}
 use Rattle.std.proofs.lemmas.Option.{slice_get_within, get_or_from_slice_get}
-use Rattle.eq_base.specs.Tree.{Tree, node, size}
+use Rattle.eq_base.specs.Tree.{Tree, size}
+use Rattle.eq_base.proofs.Numbers.{has_node}
 use Rattle.eq_base.specs.Pattern.{PatternCell}
 use Rattle.eq_base.specs.Rules.{rule_of, right_side}
 use Rattle.eq_base.specs.declared.head.Head.{Head}
@@ -33,13 +34,10 @@ module _ (es : List Equation) (b : Break) where
   right_there : b.restriction ≡ 2 → (e : Equation) → b.place < size (right_of e.left (right_side e.right)) → b.place < size (broken_side b.restriction (rule_of e))
   right_there is e lt = subst (λ p. b.place < size p) (sym (ap (λ r. broken_side r (rule_of e)) is)) lt
 
-  some_node : (t : Tree (PatternCell Head)) → 0 < size t
-  some_node (node c ps) = omega arith
-
   in_list : IsViolation es b → IsInList es b
   in_list (inl (inl (inl r))) = record { one = r.equation; other = r.equation; one_listed = r.listed; other_listed = subst (λ k. slice_get es k ≡ Some r.equation) (sym r.second) r.listed; there = left_there 1 r.restriction (λ e. cc) r.equation r.repeats.here.there }
   in_list (inl (inl (inr u))) = record { one = u.equation; other = u.equation; one_listed = u.listed; other_listed = subst (λ k. slice_get es k ≡ Some u.equation) (sym u.second) u.listed; there = right_there u.restriction u.equation (right_place u.equation.left u.equation.right b.place u.unbound) }
-  in_list (inl (inr (inl a))) = record { one = a.one; other = a.other; one_listed = a.one_listed.listed; other_listed = a.other_listed.listed; there = left_there 3 a.restriction (λ e. cc) a.one (subst (λ k. k < size a.one.left) (sym a.root) (some_node a.one.left)) }
+  in_list (inl (inr (inl a))) = record { one = a.one; other = a.other; one_listed = a.one_listed.listed; other_listed = a.other_listed.listed; there = left_there 3 a.restriction (λ e. cc) a.one (subst (λ k. k < size a.one.left) (sym a.root) (has_node a.one.left)) }
   in_list (inl (inr (inr o))) = record { one = o.one; other = o.other; one_listed = o.one_listed.listed; other_listed = o.other_listed.listed; there = left_there 4 o.restriction (λ e. cc) o.one o.tested.there }
   in_list (inr s) = record { one = s.one; other = s.other; one_listed = s.one_listed.listed; other_listed = s.other_listed.listed; there = left_there 5 s.restriction (λ e. cc) s.one s.tested.there }
 

@@ -1,71 +1,210 @@
--- The equations that a file gives are well formed.
-use Rattle.std.proofs.Common.{◌≡◌, ℕ, zero, suc, ◌+◌, ◌<◌, ◌≤◌, List, [], ◌∷◌, ◌++◌, map, length, refl, sym, ap, ◌∙◌, subst, arith, rules, length-append}
-use Rattle.std.specs.Prelude.{Bool, true, false, IsTrue, All, ◌==◌, ◌&&◌, nat_lt, slice_index_or}
+-- The equations of a file are well formed, and the truth values are declared where an operation needs them.
+use Rattle.std.proofs.Common.{◌≡◌, ℕ, zero, suc, ◌+◌, ◌<◌, List, [], ◌∷◌, ◌++◌, map, length, refl, sym, ap, ◌∙◌, subst, arith, rules}
+use Rattle.std.specs.Prelude.{Bool, true, false, IsTrue, Contains, ◌==◌, ◌&&◌, nat_lt, slice_index_or}
 use Rattle.std.specs.List.{AllByRecursion, flat_map}
-use Rattle.std.proofs.lemmas.Grind.{flat_map-append}
-use Rattle.std.proofs.lemmas.List.{length-map, get_or-map}
-use Rattle.eq_base.specs.Tree.{Tree, Forest, node, empty, grow, size, head_of, map_heads, map_all_heads}
-use Rattle.eq_base.specs.Pattern.{PatternCell, fixed, variable, restricted}
-use Rattle.eq_base.specs.Mapping.{map_cell, map_pattern, map_right}
+use Rattle.std.proofs.lemmas.List.{length-map}
+use Rattle.std.proofs.lemmas.List.Elements.{Contains-append_left, Contains-append_right}
+use Rattle.eq_base.specs.Tree.{Tree, Forest, node, empty, grow, count, head_of, map_heads}
+use Rattle.eq_base.specs.Pattern.{PatternCell, fixed, variable, restricted, variables, all_variables}
+use Rattle.eq_base.specs.Mapping.{map_cell, map_right}
 use Rattle.eq_base.specs.Meeting.{class_number, in_symbol_class}
-use Rattle.eq_base.specs.Rewriting.{operation}
+use Rattle.eq_base.specs.Rewriting.{RightSide, pattern, operation}
+use Rattle.eq_base.specs.Operations.{application, compares}
 use Rattle.eq_base.specs.ReadHead.{ReadHead, symbol}
 use Rattle.eq_base.specs.declared.meeting.SymbolClass.TheVariants.{TruthValues}
 use Rattle.eq_base.specs.declared.head.Head.{Head}
 use Rattle.eq_base.specs.declared.head.Head.TheVariants.{Symbol, Numeral, Atom, Text}
 use Rattle.eq_base.specs.declared.rules.Op.{Op}
+use Rattle.eq_base.specs.declared.rules.Op.TheVariants.{AddInt, SubInt, MultInt, DivInt, ModInt, EquInt, LessInt, EquAtom, EquStr, ConcatStr, LengthStr}
 use Rattle.eq_base.specs.declared.rules.Equation.{Equation}
 use Rattle.eq_base.specs.declared.rules.Right.{Right}
 use Rattle.eq_base.specs.declared.rules.Right.TheVariants as rights
 use Rattle.eq_base.specs.Rules.{right_side}
-use Rattle.eq_base.proofs.Lists.{all_at, all_both}
-use Rattle.eq_base.proofs.Trees.{size-map_heads, count-map_all_heads}
+use Rattle.eq_base.proofs.Lists.{all_at, all_both, all_contained}
+use Rattle.eq_base.proofs.Trees.{size-map_heads}
 use Rattle.term_lex.specs.declared.token.Token.{Token}
-use Rattle.symbol_table.specs.Table.{Table, symbols_of}
-use Rattle.symbol_table.specs.Reading.{read_head, read_pattern}
+use Rattle.symbol_table.specs.Table.{Table, symbols_of, Includes, names_of}
+use Rattle.symbol_table.specs.Reading.{read_head}
 use Rattle.written_terms.specs.Notation.{Notation}
 use Rattle.written_terms.proofs.Notations.{IsLawful}
 use Rattle.regularity.specs.Arities.{HasArities, HaveArities}
-use Rattle.regularity.specs.WellFormed.{right_size, HasSymbolRoot, IsWellFormed, AreWellFormed}
-use Rattle.def_file.specs.AsRead.{ReadEquation, Equation as WrittenEquation, ReadNumbered, ReadDefinitions}
+use Rattle.regularity.specs.WellFormed.{right_size, IsWellFormed, AreWellFormed}
+use Rattle.def_file.specs.AsRead.{ReadEquation, ItemOf, Equation as WrittenEquation, Class, ReadNumbered, ReadDefinitions}
 use Rattle.def_file.specs.Trees.{Sides, EquationItem, Equates, IncludesOperations}
+use Rattle.def_file.specs.Operations.{operation_symbol, HasNeeds}
 use Rattle.def_file.specs.Pairs.{AreRelated}
 use Rattle.def_file.specs.Names.{Known, places_of}
-use Rattle.def_file.specs.Sides.{equation_of, Limit, Application, Cells, limits_of, all_limits, IsSymbolApplied, KeepsLimit, KeepsAll}
+use Rattle.def_file.specs.Sides.{equation_of, Limit, Application, limits_of, all_limits, IsSymbolApplied, KeepsLimit, KeepsAll}
 use Rattle.def_file.specs.Definitions.{classed, MeansSide, MeansEquation, MeansOperation, MeansItem, MeanItems, Says}
 use Rattle.def_file.proofs.Meant.{limits_append}
 use Rattle.def_file.proofs.OneNaming.{AreOnce, distinct_names, pattern_one}
-use Rattle.ei_program.specs.Definitions.{FileEquation, cells_in, equation_in, file_equations, file_equation}
-use Rattle.ei_program.proofs.Meanings.{classed_size, arity_in, meant_arities}
+use Rattle.orthogonal_laws.specs.Operations.{AreTruthsKnown}
+use Rattle.qualifiers.specs.Replacing.{Replacement, replace, replace_all}
+use Rattle.qualifiers.specs.Instances.{parts_of}
+use Rattle.qualifiers.specs.Classes.{IsProperItem}
+use Rattle.qualifiers.specs.Equations.{Unnumbered}
+use Rattle.qualifiers.specs.Expansion.{PlainEquation, unnumbered, HasNoCircle, cells_in, IsSmall, Gives}
+use Rattle.qualifiers.specs.AsRead.{IsExpansion, plain_equation, plain_equations}
+use Rattle.qualifiers.proofs.Members.{contains_first}
+use Rattle.qualifiers.proofs.MappedEquations.{all_unmapped}
+use Rattle.qualifiers.proofs.EachEquation.{IsKept, each_choice, choice_keeps, each_expanded, all_within}
+use Rattle.qualifiers.proofs.MeantParts.{parts_have}
+use Rattle.qualifiers.proofs.SaysProper.{says_proper}
+use Rattle.ei_program.proofs.Meanings.{arity_in, listed_arity, meant_arities}
+use Rattle.ei_program.proofs.ReadPatterns.{arities_back, root_back, application_back}
+
+-- ---- patterns whose variables are replaced
+
+-- a symbol stands at the root
+abbrev HasSymbol : Tree (PatternCell ReadHead) → Type 0
+HasSymbol p = (s : ℕ) × (head_of p ≡ fixed (symbol s))
+
+-- it stays there
+root-replace : (θ : Replacement ReadHead) (p : Tree (PatternCell ReadHead)) → HasSymbol p → HasSymbol (replace θ p)
+root-replace θ (node (fixed h) ps) root = root
+root-replace θ (node (variable x) ps) (s, is) = cc
+root-replace θ (node (restricted x class) ps) root = root
+
+module _ {H : Type 0} (arity : H → ℕ) where
+  -- as many patterns
+  count-replace_all : (θ : Replacement H) (ps : Forest (PatternCell H)) → count (replace_all θ ps) ≡ count ps
+  count-replace_all θ empty = refl
+  count-replace_all θ (grow p ps) = ap suc (count-replace_all θ ps)
+
+  -- the heads keep their numbers of arguments
+  mutual
+    arities-replace : (θ : Replacement H) (p : Tree (PatternCell H)) → HasArities arity p → ((x : ℕ) → Contains (variables p) x → HasArities arity (θ x)) → HasArities arity (replace θ p)
+    arities-replace θ (node (fixed h) ps) (here, others) each = (count-replace_all θ ps ∙ here, all_arities-replace θ ps others each)
+    arities-replace θ (node (variable x) ps) none each = each x (contains_first x [])
+    arities-replace θ (node (restricted x class) ps) none each = none
+
+    all_arities-replace : (θ : Replacement H) (ps : Forest (PatternCell H)) → HaveArities arity ps → ((x : ℕ) → Contains (all_variables ps) x → HasArities arity (θ x)) → HaveArities arity (replace_all θ ps)
+    all_arities-replace θ empty all each = tt
+    all_arities-replace θ (grow p ps) (first, others) each = (
+      arities-replace θ p first (λ x c. each x (Contains-append_left (variables p) (all_variables ps) x c)),
+      all_arities-replace θ ps others (λ x c. each x (Contains-append_right (variables p) (all_variables ps) x c)),
+    )
+
+  -- so replaced patterns have them
+  arities_kept : IsKept (HasArities arity)
+  arities_kept = record { of_variable = λ x. refl; of_replaced = arities-replace }
+
+-- ---- the equations of an item
+
+-- what is known of an item: a symbol at the root of its left side, and the table's numbers of arguments
+abbrev IsFitItem : Table → ItemOf ReadHead → Type 0
+IsFitItem table (WrittenEquation w) =
+    HasSymbol w.left × AllByRecursion (HasArities (arity_in table)) (parts_of w)
+IsFitItem table (Class op byte) = Unit {0}
+
+-- what is known of an equation
+record IsFit (table : Table) (e : Unnumbered ReadHead) : Type 0 where
+  pub root : HasSymbol e.rule.left
+  pub arities : HasArities (arity_in table) e.rule.left
+  pub applied : (op : Op) → e.rule.right ≡ operation op → (s : ℕ) × (e.rule.left ≡ application op (symbol s))
+
+-- an operation's symbol stands at the root of its application
+application_root : (op : Op) (s : ℕ) → HasSymbol (application op (symbol s))
+application_root AddInt s = (s, refl)
+application_root SubInt s = (s, refl)
+application_root MultInt s = (s, refl)
+application_root DivInt s = (s, refl)
+application_root ModInt s = (s, refl)
+application_root EquInt s = (s, refl)
+application_root LessInt s = (s, refl)
+application_root EquAtom s = (s, refl)
+application_root EquStr s = (s, refl)
+application_root ConcatStr s = (s, refl)
+application_root LengthStr s = (s, refl)
+
+module _ (table : Table) where
+  -- an operation's symbol is declared with as many arguments as it has operands
+  application_arities : (op : Op) (s : ℕ) → (operation_symbol op).arity ≡ arity_in table (symbol s) → HasArities (arity_in table) (application op (symbol s))
+  application_arities AddInt s has = (has, (refl, (refl, tt)))
+  application_arities SubInt s has = (has, (refl, (refl, tt)))
+  application_arities MultInt s has = (has, (refl, (refl, tt)))
+  application_arities DivInt s has = (has, (refl, (refl, tt)))
+  application_arities ModInt s has = (has, (refl, (refl, tt)))
+  application_arities EquInt s has = (has, (refl, (refl, tt)))
+  application_arities LessInt s has = (has, (refl, (refl, tt)))
+  application_arities EquAtom s has = (has, (refl, (refl, tt)))
+  application_arities EquStr s has = (has, (refl, (refl, tt)))
+  application_arities ConcatStr s has = (has, (refl, (refl, tt)))
+  application_arities LengthStr s has = (has, (refl, tt))
+
+  -- each equation of an item is fit
+  given_fit : (number : ℕ) (i : ItemOf ReadHead) (es : List (Unnumbered ReadHead)) → IsFitItem table i → HasNoCircle i → Gives symbol table number i es → AllByRecursion (IsFit table) es
+  given_fit number (WrittenEquation w) es (root, parts) none gives =
+      each_choice (IsFit table) w number es
+      (λ choice e is of.
+      let sides = choice_keeps (HasArities (arity_in table)) (arities_kept (arity_in table)) w none parts number choice e is of in
+      record {
+        root = subst (λ (u : Unnumbered ReadHead). HasSymbol u.rule.left) (sym of.is) (root-replace of.replacement w.left root);
+        arities = sides.0;
+        applied = λ op right. let plain : pattern (replace of.replacement w.right) ≡ operation op = sym (ap (λ (u : Unnumbered ReadHead). u.rule.right) of.is) ∙ right in cc;
+      })
+      gives
+  given_fit number (Class op byte) es fit none (e, of, is) =
+      let of_application : IsFit table (record { item = number; rule = record { left = application op (symbol of.symbol); right = operation op } }) = record {
+        root = application_root op of.symbol;
+        arities = application_arities op of.symbol (listed_arity table (operation_symbol op).name (operation_symbol op).arity of.symbol of.declared);
+        applied = λ other right. (of.symbol, ap (λ o. application o (symbol of.symbol)) (let same : op ≡ other = cc in same));
+      } in
+      subst (AllByRecursion (IsFit table)) (sym is) (subst (IsFit table) (sym of.is) of_application, tt)
+
+  -- ---- operations
+
+  -- the needs of an equation's operation, if it has one
+  abbrev HasItsNeeds : Unnumbered ReadHead → Type 0
+  HasItsNeeds e = (op : Op) → e.rule.right ≡ operation op → HasNeeds table op
+
+  -- each equation of an item has what its operation needs
+  given_needs : (number : ℕ) (i : ItemOf ReadHead) (es : List (Unnumbered ReadHead)) → IsProperItem table i → HasNoCircle i → Gives symbol table number i es → AllByRecursion HasItsNeeds es
+  given_needs number (WrittenEquation w) es proper none gives =
+      each_choice HasItsNeeds w number es
+      (λ choice e is of op right. let plain : pattern (replace of.replacement w.right) ≡ operation op = sym (ap (λ (u : Unnumbered ReadHead). u.rule.right) of.is) ∙ right in cc)
+      gives
+  given_needs number (Class op byte) es needs none (e, of, is) =
+      let its : HasItsNeeds e = λ other right. let one : ◌≡◌ {A = RightSide ReadHead} (operation op) (operation other) = sym (ap (λ (u : Unnumbered ReadHead). u.rule.right) of.is) ∙ right in subst (HasNeeds table) (let same : op ≡ other = cc in same) needs in
+      subst (AllByRecursion HasItsNeeds) (sym is) (its, tt)
+
+  -- an operation that compares needs the truth values
+  truths_needed : (op : Op) → IsTrue (compares op) → HasNeeds table op → Includes table TruthValues
+  truths_needed EquInt is needs = needs.classes.1.0
+  truths_needed LessInt is needs = needs.classes.1.0
+  truths_needed EquAtom is needs = needs.classes.1.0
+  truths_needed EquStr is needs = needs.classes.1.0
+  truths_needed AddInt is needs = cc
+  truths_needed SubInt is needs = cc
+  truths_needed MultInt is needs = cc
+  truths_needed DivInt is needs = cc
+  truths_needed ModInt is needs = cc
+  truths_needed ConcatStr is needs = cc
+  truths_needed LengthStr is needs = cc
+
+-- ---- the items of a file
 
 module _ (notation : Notation) (lawful : IsLawful notation) (text : List ℕ) (known : Known) (once : AreOnce known) where
-  -- ---- one equation
+  abbrev IsFitOne : ReadNumbered → Type 0
+  IsFitOne n = IsFitItem known.table n.item
 
-  -- what is known of an equation of the file
-  pub record IsFit (e : FileEquation) : Type 0 where
-    pub left_size : size e.rule.left ≤ 255
-    pub right_size : cells_in e.rule.right ≤ 65535
-    pub root : (s : ℕ) × (head_of e.rule.left ≡ fixed (symbol s))
-    pub arities : HasArities (arity_in known.table known.variables) e.rule.left
-    pub no_operation : (op : Op) → e.rule.right ≡ operation op → ⊥
-
-  side_fits : (classes : List (ℕ × ℕ)) (byte most : ℕ) (p : Tree (PatternCell ReadHead)) → MeansSide notation text known classes byte p → KeepsLimit notation text known (Cells most byte) → size p ≤ most
-  side_fits classes byte most p (plain, reads, is) (other, reads', fits) =
-      let same : size p ≡ size other = ap size is ∙ classed_size classes plain ∙ ap size (pattern_one lawful text known once byte plain other reads reads') in omega (arith, same, fits)
-
-  symbol_root : (classes : List (ℕ × ℕ)) (p : Tree (PatternCell ReadHead)) → IsSymbolApplied p → (s : ℕ) × (head_of (map_heads (classed classes) p) ≡ fixed (symbol s))
+  -- a symbol stays at the root where variables have classes
+  symbol_root : (classes : List (ℕ × ℕ)) (p : Tree (PatternCell ReadHead)) → IsSymbolApplied p → HasSymbol (map_heads (classed classes) p)
   symbol_root classes (node (fixed (symbol n)) ps) is = (n, refl)
   symbol_root classes p is = absurd is
 
-  side_root : (classes : List (ℕ × ℕ)) (byte : ℕ) (p : Tree (PatternCell ReadHead)) → MeansSide notation text known classes byte p → KeepsLimit notation text known (Application byte) → (s : ℕ) × (head_of p ≡ fixed (symbol s))
+  -- a side whose limit is kept has a symbol at its root
+  side_root : (classes : List (ℕ × ℕ)) (byte : ℕ) (p : Tree (PatternCell ReadHead)) → MeansSide notation text known classes byte p → KeepsLimit notation text known (Application byte) → HasSymbol p
   side_root classes byte p (plain, reads, is) (other, reads', application) =
       let root = symbol_root classes plain (subst IsSymbolApplied (pattern_one lawful text known once byte other plain reads' reads) application) in
       (root.0, ap head_of is ∙ root.1)
 
-  side_arities : (classes : List (ℕ × ℕ)) (byte : ℕ) (p : Tree (PatternCell ReadHead)) → MeansSide notation text known classes byte p → HasArities (arity_in known.table known.variables) p
+  -- a side that is meant has the declared numbers of arguments
+  side_arities : (classes : List (ℕ × ℕ)) (byte : ℕ) (p : Tree (PatternCell ReadHead)) → MeansSide notation text known classes byte p → HasArities (arity_in known.table) p
   side_arities classes byte p (plain, (end, reads), is) =
-      subst (HasArities (arity_in known.table known.variables)) (sym is) (meant_arities known.table known.variables classes (notation.outline reads.written) plain reads.means)
+      subst (HasArities (arity_in known.table)) (sym is) (meant_arities known.table known.variables classes (notation.outline reads.written) plain reads.means)
 
+  -- the limits in front, and behind
   keeps_front : (xs ys : List Limit) → KeepsAll notation text known (xs ++ ys) → KeepsAll notation text known xs
   keeps_front [] ys all = tt
   keeps_front (x ∷ xs) ys (here, others) = (here, keeps_front xs ys others)
@@ -74,54 +213,35 @@ module _ (notation : Notation) (lawful : IsLawful notation) (text : List ℕ) (k
   keeps_back [] ys all = all
   keeps_back (x ∷ xs) ys (here, others) = keeps_back xs ys others
 
-  equation_fits : (before number : ℕ) (sides : Sides) (w : ReadEquation) → MeansEquation notation text known sides w → KeepsAll notation text known (limits_of before sides)
-      → AllByRecursion IsFit (file_equations (record { item = WrittenEquation w; number = number } ∷ []))
-  equation_fits before number sides w means (few, (application, (left, (right, others)))) = (
-    record {
-      left_size = side_fits means.classes sides.left 255 w.left means.left left;
-      right_size = side_fits means.classes sides.right 65535 w.right means.right right;
-      root = side_root means.classes sides.left w.left means.left application;
-      arities = side_arities means.classes sides.left w.left means.left;
-      no_operation = λ op e. cc;
-    },
-    tt,
+  -- an equation that is meant is fit
+  equation_fits : (before : ℕ) (sides : Sides) (w : ReadEquation) → MeansEquation notation text known sides w → KeepsAll notation text known (limits_of before sides) → IsFitItem known.table (WrittenEquation w)
+  equation_fits before sides w means (few, (application, others)) = (
+    side_root means.classes sides.left w.left means.left application,
+    parts_have notation text known sides w means (HasArities (arity_in known.table)) (side_arities means.classes),
   )
 
-  -- ---- all equations
+  -- of operations nothing is asked
+  operations_fit : (number : ℕ) (names : List Token) (ns : List ReadNumbered) → AreRelated (MeansOperation text known number) names ns → AllByRecursion IsFitOne ns
+  operations_fit number [] [] means = tt
+  operations_fit number [] (n ∷ ns) means = absurd means
+  operations_fit number (t ∷ ts) [] means = absurd means
+  operations_fit number (t ∷ ts) (n ∷ ns) ((op, named, is), others) = (subst IsFitOne (sym is) tt, operations_fit number ts ns others)
 
-  no_equations : (number : ℕ) (names : List Token) (ns : List ReadNumbered) → AreRelated (MeansOperation text known number) names ns → file_equations ns ≡ []
-  no_equations number [] [] means = refl
-  no_equations number [] (n ∷ ns) means = absurd means
-  no_equations number (t ∷ ts) [] means = absurd means
-  no_equations number (t ∷ ts) (n ∷ ns) ((op, named, is), others) = rw is (no_equations number ts ns others)
+  -- the items of one that is written
+  item_fits : (before number : ℕ) (i : EquationItem) (ns : List ReadNumbered) → MeansItem notation text known number i ns → KeepsAll notation text known (all_limits before (equation_of i)) → AllByRecursion IsFitOne ns
+  item_fits before number (Equates sides) ns (w, means, is) kept =
+      subst (AllByRecursion IsFitOne) (sym is) (equation_fits before sides w means (keeps_front (limits_of before sides) [] kept), tt)
+  item_fits before number (IncludesOperations include names) ns means kept = operations_fit number names ns means
 
-  item_fits : (before number : ℕ) (i : EquationItem) (ns : List ReadNumbered) → MeansItem notation text known number i ns → KeepsAll notation text known (all_limits before (equation_of i))
-      → AllByRecursion IsFit (file_equations ns) × (length (file_equations ns) ≡ length (equation_of i))
-  item_fits before number (Equates sides) ns (w, means, is) kept = (
-    subst (λ ms. AllByRecursion IsFit (file_equations ms)) (sym is) (equation_fits before number sides w means (keeps_front (limits_of before sides) [] kept)),
-    ap (λ ms. length (file_equations ms)) is,
-  )
-  item_fits before number (IncludesOperations include names) ns means kept =
-      let none = no_equations number names ns means in
-      (subst (AllByRecursion IsFit) (sym none) tt, ap length none)
-
-  items_fit : (before number : ℕ) (is : List EquationItem) (ns : List ReadNumbered) → MeanItems notation text known number is ns → KeepsAll notation text known (all_limits before (flat_map equation_of is))
-      → AllByRecursion IsFit (file_equations ns) × (length (file_equations ns) ≡ length (flat_map equation_of is))
-  items_fit before number [] ns none kept = (subst (λ ms. AllByRecursion IsFit (file_equations ms)) (sym none) tt, ap (λ ms. length (file_equations ms)) none)
+  -- and of one after another
+  items_fit : (before number : ℕ) (is : List EquationItem) (ns : List ReadNumbered) → MeanItems notation text known number is ns → KeepsAll notation text known (all_limits before (flat_map equation_of is)) → AllByRecursion IsFitOne ns
+  items_fit before number [] ns none kept = subst (AllByRecursion IsFitOne) (sym none) tt
   items_fit before number (i ∷ is) ns (front, back, split, here, others) kept =
-      let limits = limits_append before (equation_of i) (flat_map equation_of is) in
-      let parts : KeepsAll notation text known (all_limits before (equation_of i) ++ all_limits (before + length (equation_of i)) (flat_map equation_of is)) = subst (KeepsAll notation text known) limits kept in
-      let first = item_fits before number i front here (keeps_front (all_limits before (equation_of i)) _ parts) in
-      let rest = items_fit (before + length (equation_of i)) (number + 1) is back others (keeps_back (all_limits before (equation_of i)) _ parts) in
-      let joined : file_equations ns ≡ file_equations front ++ file_equations back = ap file_equations split ∙ flat_map-append (λ n. equation_in n.item n.number) front back in (
-        subst (AllByRecursion IsFit) (sym joined) (all_both IsFit (file_equations front) (file_equations back) first.0 rest.0),
-        ap length joined ∙ length-append (file_equations front) (file_equations back) ∙ rw first.1 (rw rest.1 (sym (length-append (equation_of i) (flat_map equation_of is)))),
-      )
-
-  few_equations : (before : ℕ) (ss : List Sides) → before ≤ 2048 → KeepsAll notation text known (all_limits before ss) → before + length ss ≤ 2048
-  few_equations before [] fits kept = omega (arith, fits)
-  few_equations before (s ∷ ss) fits (here, kept) =
-      let rest = few_equations (before + 1) ss (omega (arith, here)) (keeps_back _ (all_limits (before + 1) ss) (kept.1.1.1)) in omega (arith, rest)
+      let parts = subst (KeepsAll notation text known) (limits_append before (equation_of i) (flat_map equation_of is)) kept in
+      subst (AllByRecursion IsFitOne) (sym split)
+      (all_both IsFitOne front back
+      (item_fits before number i front here (keeps_front (all_limits before (equation_of i)) _ parts))
+      (items_fit (before + length (equation_of i)) (number + 1) is back others (keeps_back (all_limits before (equation_of i)) _ parts)))
 
 -- ---- the heads of classes
 
@@ -138,75 +258,69 @@ second_true false b is = cc
 below_two : (s : ℕ) → IsTrue (nat_lt s 2) → s < 2
 below_two s is = search rules
 
-constants : (names table : Table) (variables : List (List ℕ)) (class : ℕ) (h : Head) → IsTrue (in_symbol_class class h) → arity_in names variables (read_head table h) ≡ 0
-constants names table variables class (Symbol s) is = truth_arity names s (below_two s (second_true (class == class_number TruthValues) (nat_lt s 2) is))
-constants names table variables class (Numeral i) is = refl
-constants names table variables class (Atom n) is = refl
-constants names table variables class (Text n) is = refl
-
--- ---- equations by their numbers
-
--- a pattern has the numbers of arguments that it has as it is read
-module _ (arity : ReadHead → ℕ) (f : Head → ReadHead) where
-  empty_back : (ps : Forest (PatternCell Head)) → ◌≡◌ {A = Forest (PatternCell ReadHead)} (map_all_heads (map_cell f) ps) empty → ps ≡ empty
-  empty_back empty e = refl
-  empty_back (grow p ps) e = cc
-
-  mutual
-    arities_back : (p : Tree (PatternCell Head)) → HasArities arity (map_pattern f p) → HasArities (λ h. arity (f h)) p
-    arities_back (node (fixed h) ps) (here, others) = (sym (count-map_all_heads (map_cell f) ps) ∙ here, all_arities_back ps others)
-    arities_back (node (variable x) ps) none = empty_back ps none
-    arities_back (node (restricted x class) ps) none = empty_back ps none
-
-    all_arities_back : (ps : Forest (PatternCell Head)) → HaveArities arity (map_all_heads (map_cell f) ps) → HaveArities (λ h. arity (f h)) ps
-    all_arities_back empty all = tt
-    all_arities_back (grow p ps) (first, others) = (arities_back p first, all_arities_back ps others)
-
-root_back : (table : Table) (p : Tree (PatternCell Head)) (s : ℕ) → head_of (read_pattern table p) ≡ fixed (symbol s) → HasSymbolRoot p
-root_back table (node (fixed (Symbol n)) ps) s is = (n, refl)
-root_back table (node (fixed (Numeral n)) ps) s is = cc
-root_back table (node (fixed (Atom n)) ps) s is = cc
-root_back table (node (fixed (Text n)) ps) s is = cc
-root_back table (node (variable x) ps) s is = cc
-root_back table (node (restricted x class) ps) s is = cc
-
-module _ (notation : Notation) (lawful : IsLawful notation) (text : List ℕ) (known : Known) (once : AreOnce known) (table : Table) where
-  numbered_fits : (e : Equation) → IsFit notation lawful text known once (file_equation table e) → IsWellFormed e
-  numbered_fits e fit = record {
-    left_size = let fits = fit.left_size in omega (arith, size-map_heads (map_cell (read_head table)) e.left, fits);
-    right_size = right_fits e fit;
-    root = root_back table e.left fit.root.0 fit.root.1;
-    applied = λ op is. absurd (fit.no_operation op (ap (λ r. map_right (read_head table) (right_side r)) is));
-  }
-    where
-      sized : (r : Right) → cells_in (map_right (read_head table) (right_side r)) ≡ right_size r
-      sized (rights.Tree p) = size-map_heads (map_cell (read_head table)) p
-      sized (rights.Schema op) = refl
-
-      right_fits : (e : Equation) → IsFit notation lawful text known once (file_equation table e) → right_size e.right ≤ 65535
-      right_fits e fit = let fits = fit.right_size in omega (arith, sized e.right, fits)
+-- the heads of classes have no arguments
+constants : (names table : Table) (class : ℕ) (h : Head) → IsTrue (in_symbol_class class h) → arity_in names (read_head table h) ≡ 0
+constants names table class (Symbol s) is = truth_arity names s (below_two s (second_true (class == class_number TruthValues) (nat_lt s 2) is))
+constants names table class (Numeral i) is = refl
+constants names table class (Atom n) is = refl
+constants names table class (Text n) is = refl
 
 -- ---- a file
 
-module _ (notation : Notation) (lawful : IsLawful notation) (text : List ℕ) (d : ReadDefinitions) (says : Says notation text d) (table : Table) (numbered : List Equation) (is : map (file_equation table) numbered ≡ file_equations d.items) where
-  once : AreOnce says.known
-  once = distinct_names lawful text (places_of says.file) says.known says.names
+module _ (table : Table) where
+  -- the equation as it is read, but for its part
+  abbrev read_one : Equation → Unnumbered ReadHead
+  read_one e = unnumbered (plain_equation table e)
 
-  fits : AllByRecursion (IsFit notation lawful text says.known once) (file_equations d.items) × (length (file_equations d.items) ≡ length (flat_map equation_of says.file.items))
-  fits = items_fit notation lawful text says.known once 0 1 says.file.items d.items says.items says.limits
+  -- a right side has as many cells as it is read
+  right_cells : (r : Right) → cells_in (map_right (read_head table) (right_side r)) ≡ right_size r
+  right_cells (rights.Tree p) = size-map_heads (map_cell (read_head table)) p
+  right_cells (rights.Schema op) = refl
 
-  each : (P : Equation → Type 0) → ((e : Equation) → IsFit notation lawful text says.known once (file_equation table e) → P e) → All P numbered
-  each P of k e lt =
-      let all = subst (AllByRecursion (IsFit notation lawful text says.known once)) (sym is) fits.0 in
-      let within : k < length (map (file_equation table) numbered) = omega (arith, length-map numbered (file_equation table), lt) in
-      of _ (subst (IsFit notation lawful text says.known once) (get_or-map (file_equation table) numbered k e (file_equation table e) lt) (all_at (IsFit notation lawful text says.known once) (map (file_equation table) numbered) k (file_equation table e) within all))
+  -- an equation that is small and fit as it is read is well formed
+  numbered_fits : (names : Table) (e : Equation) → IsSmall (read_one e) → IsFit names (read_one e) → IsWellFormed e
+  numbered_fits names e small fit = record {
+    left_size = let few = small.left in omega (arith, size-map_heads (map_cell (read_head table)) e.left, few);
+    right_size = let few = small.right in omega (arith, right_cells e.right, few);
+    root = root_back table e.left fit.root.0 fit.root.1;
+    applied = λ op is. let (s, applied) = fit.applied op (ap (λ r. map_right (read_head table) (right_side r)) is) in (Symbol s, application_back table op e.left s applied);
+  }
+
+  -- what each equation of an expansion has as it is read
+  all_numbered : (P : Unnumbered ReadHead → Type 0) (numbered : List Equation) → AllByRecursion P (map unnumbered (plain_equations table numbered)) → AllByRecursion (λ e. P (read_one e)) numbered
+  all_numbered P numbered all =
+      all_unmapped (λ e. P (read_one e)) (λ (p : PlainEquation ReadHead). P (unnumbered p)) (plain_equation table) (λ e has. has) numbered
+      (all_unmapped (λ (p : PlainEquation ReadHead). P (unnumbered p)) P unnumbered (λ p has. has) (plain_equations table numbered) all)
+
+module _ (notation : Notation) (lawful : IsLawful notation) (text : List ℕ) (d : ReadDefinitions) (says : Says notation text d) (table : Table) (numbered : List Equation) where
+  abbrev equations : List (Unnumbered ReadHead)
+  equations = map unnumbered (plain_equations table numbered)
+
+  -- the items that the text says are fit
+  items_are_fit : AllByRecursion (λ (n : ReadNumbered). IsFitItem d.names n.item) d.items
+  items_are_fit =
+      let once = distinct_names lawful text (places_of says.file) says.known says.names in
+      subst (λ (names : Table). AllByRecursion (λ (n : ReadNumbered). IsFitItem names n.item) d.items) (sym says.declared)
+      (items_fit notation lawful text says.known once 0 1 says.file.items d.items says.items says.limits)
 
   -- its equations are well formed, whatever numbers their heads have
-  pub file_well_formed : AreWellFormed numbered
-  file_well_formed = record {
-    few = let few = few_equations notation lawful text says.known once 0 (flat_map equation_of says.file.items) (omega arith) says.limits in omega (arith, few, fits.1, ap length is, length-map numbered (file_equation table));
-    each = each IsWellFormed (numbered_fits notation lawful text says.known once table);
-    arity = λ h. arity_in says.known.table says.known.variables (read_head table h);
-    arities = each (λ e. HasArities (λ h. arity_in says.known.table says.known.variables (read_head table h)) e.left) (λ e fit. arities_back (arity_in says.known.table says.known.variables) (read_head table) e.left fit.arities);
-    constants = constants says.known.table table says.known.variables;
-  }
+  pub file_well_formed : IsExpansion d (plain_equations table numbered) → AreWellFormed numbered
+  file_well_formed expansion =
+      let within = all_within symbol d.names d.items equations expansion.expands in
+      let small = all_numbered table IsSmall numbered within.each in
+      let fit = all_numbered table (IsFit d.names) numbered (each_expanded symbol d.names (IsFit d.names) (IsFitItem d.names) (given_fit d.names) [] d.items equations items_are_fit expansion.expands) in
+      record {
+        few = let few = within.few in omega (arith, few, length-map (plain_equations table numbered) unnumbered, length-map numbered (plain_equation table));
+        each = λ k e lt. numbered_fits table d.names (slice_index_or numbered k e) (all_at (λ e. IsSmall (read_one table e)) numbered k e lt small) (all_at (λ e. IsFit d.names (read_one table e)) numbered k e lt fit);
+        arity = λ h. arity_in d.names (read_head table h);
+        arities = λ k e lt. let fits = all_at (λ e. IsFit d.names (read_one table e)) numbered k e lt fit in arities_back (arity_in d.names) (read_head table) (slice_index_or numbered k e).left fits.arities;
+        constants = constants d.names table;
+      }
+
+  -- and the truth values are declared where the value of an operation is one
+  pub truths_known : d.names ≡ names_of table → IsExpansion d (plain_equations table numbered) → AreTruthsKnown table numbered
+  truths_known same expansion e listed op is compares =
+      let proper = says_proper lawful text d says in
+      let needs = all_numbered table (HasItsNeeds d.names) numbered (each_expanded symbol d.names (HasItsNeeds d.names) (IsProperItem d.names) (given_needs d.names) [] d.items equations proper.items expansion.expands) in
+      let its = all_contained (λ e. HasItsNeeds d.names (read_one table e)) numbered e needs listed op (ap (λ r. map_right (read_head table) (right_side r)) is) in
+      subst (λ (names : Table). Includes names TruthValues) same (truths_needed d.names op compares its)

@@ -1,8 +1,8 @@
 mod Answering
 mod Cutting
 mod Meanings
+mod ReadPatterns
 mod FileEquations
-mod Gathering
 mod Holding
 mod Answers
 mod Refusing
@@ -18,3 +18,4 @@ mod OneGiving
 mod OneInput
 mod OneDue
 mod Exact
+mod WrittenSteps

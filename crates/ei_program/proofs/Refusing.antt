@@ -1,5 +1,5 @@
 -- What a run leaves, by whether its file is accepted.
-use Rattle.std.proofs.Common.{◌≡◌, ℕ, List, [], refl, sym, ap, subst, inl, inr, Err}
+use Rattle.std.proofs.Common.{◌≡◌, ℕ, List, [], refl, sym, subst, inl, inr, Err}
 use Rattle.std.specs.declared.option.Option.{Option}
 use Rattle.std.specs.declared.option.Option.TheVariants.{Some}
 use Rattle.term_lex.specs.declared.syntax.Syntax.{Syntax}
@@ -39,7 +39,7 @@ module _ (given : Given) (task : Task) (name : List ℕ) (asked : Asks given.wor
 
 -- definitions are of the notation in which their file is read
 syntax_of : (given : Given) (task : Task) (d : Definitions) → Accepts given task d → d.syntax ≡ task.syntax
-syntax_of given task d a = ap (λ (e : Definitions). e.syntax) a.definitions.defines.0.is
+syntax_of given task d a = a.definitions.defines.notation
 
 -- the file is accepted, and the terms of the input were answered
 module _ (given : Given) (syntax : Syntax) (budget : ℕ) (name : List ℕ) (asked : Asks given.words (record { syntax = syntax; mode = Answer budget }) name) (d : Definitions) (loads : Loads syntax (given.named name) d) (left : Option (List ℕ)) where

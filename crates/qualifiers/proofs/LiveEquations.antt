@@ -1,11 +1,10 @@
 -- Each number in the equations of an expansion is live.
-use Rattle.std.proofs.Common.{ℕ, List, [], ◌∷◌, ◌++◌, map, Result, Ok, Err, sym, subst}
+use Rattle.std.proofs.Common.{ℕ, List, [], ◌∷◌, map, Result, Ok, Err, sym, subst}
 use Rattle.std.specs.Prelude.{Contains, IfOk}
-use Rattle.std.specs.List.{AllByRecursion}
+use Rattle.std.specs.List.{AllByRecursion, flat_map}
 use Rattle.std.proofs.lemmas.List.Elements.{Contains-append_left, Contains-append_right}
 use Rattle.eq_base.specs.Tree.{Tree, Forest, node, empty, grow, AllHeadsIn}
 use Rattle.eq_base.specs.Pattern.{PatternCell, fixed, variable, restricted, variables, all_variables}
-use Rattle.eq_base.specs.Rewriting.{RightSide, pattern, operation}
 use Rattle.eq_base.specs.Rules.{right_side}
 use Rattle.eq_base.specs.Operations.{application}
 use Rattle.eq_base.specs.declared.head.Head.{Head}
@@ -15,29 +14,26 @@ use Rattle.eq_base.specs.declared.rules.Op.TheVariants.{AddInt, SubInt, MultInt,
 use Rattle.eq_base.specs.declared.rules.Right.{Right}
 use Rattle.eq_base.specs.declared.rules.Right.TheVariants as rights
 use Rattle.eq_base.specs.declared.rules.Equation.{Equation}
-use Rattle.eq_base.proofs.Lists.{all_both, all_at, all_contained}
+use Rattle.eq_base.proofs.Lists.{all_both, all_at}
 use Rattle.symbol_table.specs.Table.{Table, IsLive, names_of}
 use Rattle.symbol_table.specs.Reading.{IsLiveCell, IsLivePattern, IsLiveRight, IsLiveEquation, AreLive}
 use Rattle.def_file.specs.declared.definitions.Qualifier.{Qualifier}
-use Rattle.def_file.specs.declared.definitions.Written.{Written}
 use Rattle.def_file.specs.declared.definitions.Item.{Item}
 use Rattle.def_file.specs.declared.definitions.Item.TheVariants as item
 use Rattle.def_file.specs.declared.definitions.Numbered.{Numbered}
 use Rattle.def_file.specs.declared.definitions.Definitions.{Definitions}
 use Rattle.def_file.specs.declared.error.FileError.{FileError}
 use Rattle.def_file.specs.Errors.{AnswersRight}
-use Rattle.def_file.specs.AsRead.{QualifierOf, IsLiveWritten, IsLiveItem, AreLiveItems}
-use Rattle.def_file.specs.Pairs.{AreRelated}
-use Rattle.qualifiers.specs.Replacing.{Replacement, Choice, replace, replace_all}
-use Rattle.qualifiers.specs.Choices.{HaveNoCircle, choices_of}
-use Rattle.qualifiers.specs.Equations.{Unnumbered, IsOfChoice}
+use Rattle.def_file.specs.AsRead.{QualifierOf, ItemOf, Equation as WrittenEquation, Class, NumberedOf, IsLiveItem, AreLiveItems}
+use Rattle.qualifiers.specs.Replacing.{Replacement, replace, replace_all}
+use Rattle.qualifiers.specs.Instances.{parts_of}
+use Rattle.qualifiers.specs.Equations.{Unnumbered}
 use Rattle.qualifiers.specs.Expansion.{HasNoCircle, Gives, Expands}
-use Rattle.qualifiers.specs.Held.{qualifier_held, qualifiers_held, equation_held, item_held, items_held, unnumbered_held}
+use Rattle.qualifiers.specs.Held.{qualifiers_held, item_held, numbered_held, items_held, unnumbered_held}
 use Rattle.qualifiers.specs.Counting.{IsExpansionOf}
-use Rattle.qualifiers.proofs.Members.{contains_first, contains_later}
+use Rattle.qualifiers.proofs.Members.{contains_first}
 use Rattle.qualifiers.proofs.MappedEquations.{all_mapped, all_unmapped}
-use Rattle.qualifiers.proofs.Replacements.{by_choice, made_chosen, made_free}
-use Rattle.qualifiers.proofs.Chosen.{is_choice, no_circle, chosen_offered}
+use Rattle.qualifiers.proofs.EachEquation.{IsKept, OnRight, OnSides, choices_keep, each_expanded}
 
 module _ (table : Table) where
   -- a replaced pattern is live where what replaces its variables is
@@ -54,39 +50,26 @@ module _ (table : Table) where
       all_live-replace θ ps live.1 (λ x c. each x (Contains-append_right (variables p) (all_variables ps) x c)),
     )
 
+  live_kept : IsKept (IsLivePattern table)
+  live_kept = record { of_variable = λ x. (tt, tt); of_replaced = live-replace }
+
   -- ---- equations
 
-  abbrev IsLiveSide : RightSide Head → Type 0
-  IsLiveSide (pattern p) = IsLivePattern table p
-  IsLiveSide (operation op) = Unit {0}
-
   abbrev IsLiveUnnumbered : Unnumbered Head → Type 0
-  IsLiveUnnumbered e = IsLivePattern table e.rule.left × IsLiveSide e.rule.right
+  IsLiveUnnumbered e = OnSides (IsLivePattern table) e
 
-  module _ (w : Written) (live : IsLiveWritten table w) (none : HaveNoCircle (qualifiers_held w.qualifiers)) where
-    live_choices : AllByRecursion (λ (q : QualifierOf Head). AllByRecursion (IsLivePattern table) q.choices) (qualifiers_held w.qualifiers)
-    live_choices = all_mapped (λ (q : Qualifier). AllByRecursion (IsLivePattern table) q.choices) (λ (q : QualifierOf Head). AllByRecursion (IsLivePattern table) q.choices) qualifier_held (λ q all. all) w.qualifiers live.choices
+  abbrev IsLiveHeld : ItemOf Head → Type 0
+  IsLiveHeld (WrittenEquation w) = AllByRecursion (IsLivePattern table) (parts_of w)
+  IsLiveHeld (Class op byte) = Unit {0}
 
-    live_choice : (number : ℕ) (choice : Choice Head) → Contains (choices_of (qualifiers_held w.qualifiers)) choice → (e : Unnumbered Head) → IsOfChoice (equation_held w) number choice e → IsLiveUnnumbered e
-    live_choice number choice listed e of =
-        let qs = qualifiers_held w.qualifiers in
-        let is = is_choice qs choice listed in
-        let grounded = no_circle qs choice is none in
-        let θ = of.replacement in
-        let each : (x : ℕ) → IsLivePattern table (θ x) = by_choice choice grounded (λ x. IsLivePattern table (θ x))
-        (λ x free. subst (IsLivePattern table) (sym (made_free choice grounded θ of.makes x free)) (tt, tt))
-        (λ x a chosen_is below.
-        let o = chosen_offered qs choice is x a chosen_is in
-        let offered = all_contained (λ (q : QualifierOf Head). AllByRecursion (IsLivePattern table) q.choices) qs o.qualifier live_choices o.listed in
-        subst (IsLivePattern table) (sym (made_chosen choice grounded θ of.makes x a chosen_is)) (live-replace θ a (all_contained (IsLivePattern table) o.qualifier.choices a offered o.offered) below)) in
-        subst IsLiveUnnumbered (sym of.is) (live-replace θ w.left live.left (λ x c. each x), live-replace θ w.right live.right (λ x c. each x))
+  live_alternatives : (qs : List Qualifier) → AllByRecursion (λ (q : Qualifier). AllByRecursion (IsLivePattern table) q.choices) qs → AllByRecursion (IsLivePattern table) (flat_map (λ (q : QualifierOf Head). q.choices) (qualifiers_held qs))
+  live_alternatives [] live = tt
+  live_alternatives (q ∷ qs) live =
+      all_both (IsLivePattern table) q.choices (flat_map (λ (r : QualifierOf Head). r.choices) (qualifiers_held qs)) live.0 (live_alternatives qs live.1)
 
-    live_of_choices : (number : ℕ) (choices : List (Choice Head)) (es : List (Unnumbered Head)) → ((choice : Choice Head) → Contains choices choice → Contains (choices_of (qualifiers_held w.qualifiers)) choice) → AreRelated (IsOfChoice (equation_held w) number) choices es → AllByRecursion IsLiveUnnumbered es
-    live_of_choices number [] [] listed h = tt
-    live_of_choices number [] (e ∷ es) listed h = absurd h
-    live_of_choices number (c ∷ cs) [] listed h = absurd h
-    live_of_choices number (c ∷ cs) (e ∷ es) listed (of, h) =
-        (live_choice number c (listed c (contains_first c cs)) e of, live_of_choices number cs es (λ d in_later. listed d (contains_later c cs d in_later)) h)
+  live_held : (i : Item) → IsLiveItem table i → IsLiveHeld (item_held i)
+  live_held (item.Equation w) live = (live.left, (live.right, live_alternatives w.qualifiers live.choices))
+  live_held (item.Class op byte) live = tt
 
   live_application : (op : Op) (s : ℕ) → IsLive table s → IsLivePattern table (application op (Symbol s))
   live_application AddInt s live = (live, ((tt, tt), ((tt, tt), tt)))
@@ -101,19 +84,18 @@ module _ (table : Table) where
   live_application ConcatStr s live = (live, ((tt, tt), ((tt, tt), tt)))
   live_application LengthStr s live = (live, ((tt, tt), tt))
 
-  live_given : (number : ℕ) (i : Item) (es : List (Unnumbered Head)) → IsLiveItem table i → HasNoCircle (item_held i) → Gives Symbol (names_of table) number (item_held i) es → AllByRecursion IsLiveUnnumbered es
-  live_given number (item.Equation w) es live none gives = live_of_choices w live none number (choices_of (qualifiers_held w.qualifiers)) es (λ choice c. c) gives
-  live_given number (item.Class op byte) es live none (e, of, is) =
+  live_given : (number : ℕ) (i : ItemOf Head) (es : List (Unnumbered Head)) → IsLiveHeld i → HasNoCircle i → Gives Symbol (names_of table) number i es → AllByRecursion IsLiveUnnumbered es
+  live_given number (WrittenEquation w) es live none gives = choices_keep (IsLivePattern table) live_kept w none live number es gives
+  live_given number (Class op byte) es live none (e, of, is) =
       let one : IsLiveUnnumbered e = subst IsLiveUnnumbered (sym of.is) (live_application op of.symbol (_, _, of.declared), tt) in
       subst (AllByRecursion IsLiveUnnumbered) (sym is) (one, tt)
 
-  live_expanded : (before : List (Unnumbered Head)) (ns : List Numbered) (es : List (Unnumbered Head)) → AreLiveItems table ns → Expands Symbol (names_of table) before (items_held ns) es → AllByRecursion IsLiveUnnumbered es
-  live_expanded before [] es live is = subst (AllByRecursion IsLiveUnnumbered) (sym is) tt
-  live_expanded before (n ∷ ns) es live (front, back, split, adds, rest) =
-      subst (AllByRecursion IsLiveUnnumbered) (sym split)
-      (all_both IsLiveUnnumbered front back (live_given n.number n.item front live.0 adds.no_circle adds.gives) (live_expanded (before ++ front) ns back live.1 rest))
+  live_expanded : (ns : List Numbered) (es : List (Unnumbered Head)) → AreLiveItems table ns → Expands Symbol (names_of table) [] (items_held ns) es → AllByRecursion IsLiveUnnumbered es
+  live_expanded ns es live is =
+      let held = all_mapped (λ (n : Numbered). IsLiveItem table n.item) (λ (n : NumberedOf Head). IsLiveHeld n.item) numbered_held (λ n. live_held n.item) ns live in
+      each_expanded Symbol (names_of table) IsLiveUnnumbered IsLiveHeld live_given [] (items_held ns) es held is
 
-  live_right : (right : Right) → IsLiveSide (right_side right) → IsLiveRight table right
+  live_right : (right : Right) → OnRight (IsLivePattern table) (right_side right) → IsLiveRight table right
   live_right (rights.Tree p) live = live
   live_right (rights.Schema op) live = tt
 
@@ -124,5 +106,5 @@ module _ (table : Table) where
   live_equations es live = λ n d lt. all_at (IsLiveEquation table) es n d lt (all_unmapped (IsLiveEquation table) IsLiveUnnumbered unnumbered_held live_equation es live)
 
 pub live_expansion : (d : Definitions) (r : Result (List Equation) FileError) → AreLiveItems d.symbols d.items → AnswersRight (IsExpansionOf d) r → IfOk r (AreLive d.symbols)
-live_expansion d (Ok es) live is = live_equations d.symbols es (live_expanded d.symbols [] d.items (map unnumbered_held es) live is.0)
+live_expansion d (Ok es) live is = live_equations d.symbols es (live_expanded d.symbols d.items (map unnumbered_held es) live is.0)
 live_expansion d (Err e) live is = tt

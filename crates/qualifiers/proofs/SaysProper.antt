@@ -32,6 +32,7 @@ use Rattle.qualifiers.specs.Instances.{parts_of}
 use Rattle.qualifiers.specs.Classes.{HasClasses, HaveClasses, IsFree, IsProper, IsProperItem, AreAscending, AreProper}
 use Rattle.qualifiers.proofs.Members.{contains_none, contains_cases, map_contains, contains_map, all_of}
 use Rattle.qualifiers.proofs.Theorem.{related_from}
+use Rattle.qualifiers.proofs.MeantParts.{parts_have}
 
 -- ---- patterns, whose variables stand with their classes
 
@@ -275,23 +276,6 @@ module _ (notation : Notation) (text : List ℕ) (known : Known) where
     side_well : (byte : ℕ) (p : Tree (PatternCell ReadHead)) → MeansSide notation text known classes byte p → IsWell p
     side_well byte p (plain, (end, reads), e) = subst IsWell (sym e) (means_pattern classes known.table known.variables _ plain reads.means)
 
-    sides_well : (terms : List ℕ) (ps : List (Tree (PatternCell ReadHead))) → AreRelated (MeansSide notation text known classes) terms ps → AllByRecursion IsWell ps
-    sides_well [] [] h = tt
-    sides_well [] (p ∷ ps) h = absurd h
-    sides_well (t ∷ ts) [] h = absurd h
-    sides_well (t ∷ ts) (p ∷ ps) (m, h) = (side_well t p m, sides_well ts ps h)
-
-    choices_well : (r : Restriction) (ps : List (Tree (PatternCell ReadHead))) → MeanChoices notation text known classes r ps → AllByRecursion IsWell ps
-    choices_well (InClass name) ps e = subst (AllByRecursion IsWell) (sym e) tt
-    choices_well (OneOf terms) ps h = sides_well terms ps h
-
-    alternatives_well : (cs : List Condition) (qs : List ReadQualifier) → AreRelated Means cs qs → AllByRecursion IsWell (flat_map (λ (q : ReadQualifier). q.choices) qs)
-    alternatives_well [] [] h = tt
-    alternatives_well [] (q ∷ qs) h = absurd h
-    alternatives_well (c ∷ cs) [] h = absurd h
-    alternatives_well (c ∷ cs) (q ∷ qs) (m, h) =
-        all_both IsWell q.choices (flat_map (λ (r : ReadQualifier). r.choices) qs) (choices_well c.restriction q.choices m.choices) (alternatives_well cs qs h)
-
     variables_distinct : (cs : List Condition) (qs : List ReadQualifier) (before : List Token) → AreApart before cs → AreRelated Means cs qs → IsDistinct nat_eq (map (λ (q : ReadQualifier). q.variable) qs)
     unfolding IsDistinct
     variables_distinct [] [] before apart h = tt
@@ -332,7 +316,7 @@ module _ (notation : Notation) (text : List ℕ) (known : Known) where
 
   equation_proper : (sides : Sides) (w : ReadEquation) → AreApart [] sides.conditions → MeansEquation notation text known sides w → IsProper w
   equation_proper sides w apart m =
-      let well : AllByRecursion (IsWell m.classes) (parts_of w) = (side_well m.classes sides.left w.left m.left, (side_well m.classes sides.right w.right m.right, alternatives_well m.classes sides.conditions w.qualifiers m.qualifiers)) in
+      let well : AllByRecursion (IsWell m.classes) (parts_of w) = parts_have notation text known sides w m (IsWell m.classes) (side_well m.classes) in
       record {
         distinct = variables_distinct m.classes sides.conditions w.qualifiers [] apart m.qualifiers;
         patterns = all_map (IsWell m.classes) testing.IsPattern (parts_of w) (λ p is. is.0) well;

@@ -1,28 +1,33 @@
-use Rattle.std.specs.Prelude.{codes, decimal}
-use Rattle.std.proofs.Common.{rules, ℕ, List, ◌∷◌, [], ◌++◌, subst, sym, ap, ◌∙◌}
-use Rattle.eq_base.specs.Tree.{Tree}
-use Rattle.eq_base.specs.declared.head.Head.{Head}
-use Rattle.symbol_table.specs.Table.{Table, names_of}
-use Rattle.symbol_table.specs.Reading.{read, IsLiveTerm}
-use Rattle.symbol_table.proofs.Keeping.{names_kept}
-use Rattle.ei_program.specs.Printing.{print}
+use Rattle.std.specs.Prelude.{IfOk, codes, decimal}
+use Rattle.std.proofs.Common.{rules, ◌++◌, Result, Ok, Err, subst}
+use Rattle.symbol_table.specs.Reading.{read}
 use Rattle.orthogonal_laws.specs.Run.{IsLiveEnd}
-use Rattle.ei_program.proofs.Answers.{normal_line, spent_line}
+use Rattle.ei_program.specs.declared.answer.Line.{Line}
+use Rattle.ei_program.specs.Definitions.{Definitions, definitions_of}
+use Rattle.ei_program.specs.Answering.{IsLineOfForm}
+use Rattle.ei_program.proofs.Holding.{definitions-kept, ready_kept}
+use Rattle.ei_program.proofs.Answers.{reduced, spent_line, form_line}
 use Rattle.ei_program.proofs.answer.line_of.Goals as goal
 
-pub write_term-requires : goal.write_term-requires
-write_term-requires c = subst (IsLiveEnd c.plain_run.new.symbols) c.in-Normal.is c.in_ok-form.ensures.live
+pub line_of_form-requires-clause-ready : goal.line_of_form-requires-clause-ready
+line_of_form-requires-clause-ready c = ready_kept c.args.loaded.now c.plain_run.new.symbols c.in_ok-form.ensures.keeps c.requires.ready
+
+pub line_of_form-requires-clause-live : goal.line_of_form-requires-clause-live
+line_of_form-requires-clause-live c = subst (IsLiveEnd c.plain_run.new.symbols) c.in-Normal.is c.in_ok-form.ensures.live
 
 pub returns-in-Normal : goal.returns-in-Normal
 returns-in-Normal c =
     let l = c.args.loaded.now in
     let new = c.plain_run.new.symbols in
-    let form = c.in-Normal.form in
-    let printed : Table → List ℕ = λ names. print l.syntax names (read new form) in (
-      printed (names_of l.symbols),
-      normal_line l c.requires.ready c.has_one_number_each.ensures.distinct c.args.budget c.args.term new _ c.in_ok-form.ensures.ok form c.in-Normal.field-1 c.in-Normal.is,
-      c.in_ok-push-in-Normal.ensures.items ∙ ap (λ z. z ++ 10 ∷ []) (c.in_ok-write_term-in-Normal.ensures ∙ rw c.new-text.ensures.items (ap printed (names_kept l.symbols new c.in_ok-form.ensures.keeps))),
-    )
+    let t = read l.symbols c.args.term in
+    let form = read new c.in-Normal.form in
+    let reduces = reduced l c.requires.ready c.has_one_number_each.ensures.distinct c.args.budget c.args.term new _ c.in_ok-form.ensures.ok c.in-Normal.form c.in-Normal.field-1 c.in-Normal.is in
+    let same = definitions-kept l new c.in_ok-form.ensures.keeps c.requires.ready in
+    answers c.line_of_form.result (λ line is. form_line c.args.budget (definitions_of l) t form line reduces (subst (λ (d : Definitions). IsLineOfForm d form line) same is)) c.line_of_form.ensures
+  where
+    answers : {E : Type 0} {P Q : Line → Type 0} (r : Result Line E) → ((line : Line) → P line → Q line) → IfOk r P → IfOk r Q
+    answers (Ok line) each is = each line is
+    answers (Err e) each is = tt
 
 pub returns : goal.returns
 returns c =

@@ -1,16 +1,16 @@
-use Rattle.std.proofs.Common.{ap, subst}
+use Rattle.std.proofs.Common.{subst}
 use Rattle.sequentiality.specs.Regular.{IsRefused}
 use Rattle.def_file.specs.Notations.{notation_of}
 use Rattle.def_file.proofs.Lawful.{lawful_of}
-use Rattle.ei_program.specs.Definitions.{Definitions}
 use Rattle.ei_program.proofs.Loadings.{breaks_of, broken_read, admitted}
 use Rattle.ei_program.proofs.FileEquations.{file_well_formed}
 use Rattle.ei_program.proofs.loading.admit.Goals as goal
 
 pub admit-requires : goal.admit-requires
 admit-requires c =
-    let gives = c.requires.defined.1.0 in
-    file_well_formed (notation_of c.args.equations.syntax) (lawful_of c.args.equations.syntax) c.requires.defined.0 gives.read gives.says c.args.equations.symbols c.args.equations.rules (ap (λ (d : Definitions). d.equations) gives.is)
+    let e = c.args.equations in
+    let defines = c.requires.defined.1 in
+    file_well_formed (notation_of e.syntax) (lawful_of e.syntax) c.requires.defined.0 defines.read defines.says e.symbols e.rules defines.expansion
 
 pub returns-in-Ok-clause-admitted : goal.returns-in-Ok-clause-admitted
 returns-in-Ok-clause-admitted c =

@@ -1,4 +1,4 @@
-use Rattle.std.proofs.Common.{ap, ◌∙◌, sym, inr, refl, ◌++◌, ◌∷◌, [], List, ℕ, codes, map, string_bytes, subst}
+use Rattle.std.proofs.Common.{ap, ◌∙◌, sym, inr, refl, ◌++◌, ◌∷◌, [], List, ℕ, codes, map, string_bytes}
 use Rattle.ei_program.specs.Words.{syntax_name}
 use Rattle.ei_program.proofs.words.task_of.Goals as goal
 
