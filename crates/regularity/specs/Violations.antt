@@ -15,7 +15,8 @@ AreAmbiguous classes one other = restrictions.AreAmbiguous (in_class_of classes)
 module _ (rules : RuleList) where
   -- the equation with this number, which breaks neither RE1 nor RE2
   abbrev pub IsListedSingle : ℕ → Equation → Type 0
-  IsListedSingle number e = restrictions.IsListedSingle (in_class_of rules.classes) rule_of rules.equations number e
+  IsListedSingle number e =
+      restrictions.IsListedSingle (in_class_of rules.classes) rule_of rules.equations number e
 
   -- RE1: a second or later occurrence of a variable on a left side
   abbrev pub IsRepeated : Break → Type 0

@@ -68,8 +68,8 @@ pub record IsWellFormedBy (table : List ℕ) (e : Equation) : Type 0 where
 abbrev pub most_classes : ℕ
 most_classes = 250
 
--- the equations are well formed, the table has the number of arguments of each head, and their classes are few
--- enough to have numbers
+-- the equations are well formed, the table has the number of arguments of each head, and their classes are
+-- few enough to have numbers
 pub record AreWellFormedBy (table : List ℕ) (rules : RuleList) : Type 0 where
   pub few : length rules.equations ≤ most_equations
   pub few_classes : length rules.classes ≤ most_classes
