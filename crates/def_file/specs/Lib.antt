@@ -10,6 +10,5 @@ pub mod Naming
 pub mod Sides
 pub mod AsRead
 pub mod Definitions
-pub mod Unbuilt
 pub mod Pairs
 pub mod Taking

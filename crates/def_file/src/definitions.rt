@@ -197,13 +197,6 @@ impl Items {
         self.list.len()
     }
 
-    /// The items as a vector, of which nothing is copied.
-    pub fn into_list(self) -> Vec<Numbered>
-        ensures { result.items ≡ self }
-    {
-        self.list
-    }
-
     /// The item with that place in the list.
     fn get(&self, place: usize) -> Option<&Numbered>
         ensures some { IfSome result (λ numbered. slice_get self.now place ≡ Some numbered.now) }

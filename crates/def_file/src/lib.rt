@@ -8,14 +8,13 @@ mod notations;
 mod phases;
 mod reading;
 mod tree;
-mod unbuilt;
 
 pub use definitions::{
     Choices, Definitions, Item, Items, Numbered, Qualifier, Qualifiers, Written,
 };
 pub use error::FileError;
 pub use naming::symbol_of;
-pub use phases::{read_definitions, unbuilt_at};
+pub use phases::read_definitions;
 
 #[cfg(test)]
 mod tests;

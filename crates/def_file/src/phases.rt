@@ -1,8 +1,6 @@
 // The phases of a file: its length, its reading and its names, each looked at where those before it have no fault.
-ghost use Rattle.std.specs.Prelude.{◌≡◌, ◌≤◌, ◌^◌, length, IfOk, IfErr, slice_get, Result};
-ghost use Rattle.def_file.specs.Trees.{File as WrittenFile};
+ghost use Rattle.std.specs.Prelude.{◌≡◌, ◌≤◌, ◌^◌, length, IfOk, IfErr, Result};
 ghost use Rattle.def_file.specs.Grammar.{IsFileText};
-ghost use Rattle.def_file.specs.Unbuilt.{unbuilt_of};
 ghost use Rattle.def_file.specs.Views.{file};
 ghost use Rattle.def_file.specs.Errors.{IfRefused, AnswersRight, AnswersAs};
 ghost use Rattle.def_file.specs.Definitions.{IsFileFault, IsDefinitions};
@@ -16,7 +14,6 @@ use crate::error::FileError;
 use crate::naming::{Named, take_names};
 use crate::reading::read_file;
 use crate::tree::File;
-use crate::unbuilt::first_unbuilt;
 use std::alloc::Global;
 use term_lex::{Fault, FaultKind, Syntax};
 
@@ -85,20 +82,4 @@ pub fn read_definitions(
     ensures live { IfOk result (λ d. AreLiveItems d.symbols d.items) }
 {
     definitions_in(alloc, text, syntax)
-}
-
-/// The byte of the first include or qualifier of a file, if it has one: that of the word `include`, or of the name before `is`.
-///
-/// Linear time in the text; memory for the file as it is written.
-///
-/// # Errors
-///
-/// The first fault of the length and the reading; out of memory.
-pub fn unbuilt_at(alloc: Global, text: &[u8], syntax: Syntax) -> Result<Option<usize>, FileError>
-    ensures ok { IfOk result (λ byte. (file : WrittenFile) × IsFileText (notation_of syntax) text.now file
-        × (byte ≡ slice_get (unbuilt_of file) 0)) }
-    ensures refused { IfErr result (IfRefused (IsFileFault (notation_of syntax) text.now)) }
-{
-    let file = read_short(alloc, text, syntax)?;
-    Ok(first_unbuilt(&file))
 }

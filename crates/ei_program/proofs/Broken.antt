@@ -17,8 +17,10 @@ use Rattle.regularity.specs.declared.breaks.Break.{Break}
 use Rattle.regularity.specs.Listing.{Lists}
 use Rattle.sequentiality.specs.Violations as numbered
 use Rattle.orthogonal_laws.proofs.ReadRestrictions.{violations_read, violations_mapped, lists_violations_read, lists_violations_mapped}
-use Rattle.ei_program.specs.Definitions.{rule_in, file_equation, Breaks, BreaksNone}
-use Rattle.ei_program.specs.Restrictions.{right_of, broken_side, broken_line, origin_name, position_name, most_told, more_line, line_by, break_line, broken_text, origin_of, origin_in}
+use Rattle.qualifiers.specs.Expansion.{origin_in}
+use Rattle.qualifiers.specs.AsRead.{plain_equation}
+use Rattle.ei_program.specs.Definitions.{rule_in, Breaks, BreaksNone}
+use Rattle.ei_program.specs.Restrictions.{right_of, broken_side, broken_line, origin_name, position_name, most_told, more_line, line_by, break_line, broken_text, origin_of}
 
 -- ---- how breaks are told
 
@@ -37,35 +39,35 @@ module _ {G H : Type 0} (f : G → H) where
   place-map restriction place r = ap (λ p. nth_position p place) (chosen-map (restriction == 2) r) ∙ nth_position-map (map_cell f) (broken_side restriction r) place
 
 module _ (table : Table) where
-  line-read : (b : Break) (one other : Option Equation) → line_by rule_in origin_in b (option_map (file_equation table) one) (option_map (file_equation table) other) ≡ line_by rule_of origin_of b one other
+  line-read : (b : Break) (one other : Option Equation) → line_by rule_in origin_in b (option_map (plain_equation table) one) (option_map (plain_equation table) other) ≡ line_by rule_of origin_of b one other
   line-read b None other = refl
   line-read b (Some e) None = refl
   line-read b (Some e) (Some g) =
       ap (λ q. broken_line b.restriction (origin_name e.origin) (position_name q) (origin_name g.origin)) (place-map (read_head table) b.restriction b.place (rule_of e))
 
-  break_line-read : (es : List Equation) (b : Break) → break_line rule_in origin_in (map (file_equation table) es) b ≡ break_line rule_of origin_of es b
+  break_line-read : (es : List Equation) (b : Break) → break_line rule_in origin_in (map (plain_equation table) es) b ≡ break_line rule_of origin_of es b
   break_line-read es b =
-      ap (λ one. line_by rule_in origin_in b one (slice_get (map (file_equation table) es) b.second)) (slice_get-map (file_equation table) es b.first)
-      ∙ ap (line_by rule_in origin_in b (option_map (file_equation table) (slice_get es b.first))) (slice_get-map (file_equation table) es b.second)
+      ap (λ one. line_by rule_in origin_in b one (slice_get (map (plain_equation table) es) b.second)) (slice_get-map (plain_equation table) es b.first)
+      ∙ ap (line_by rule_in origin_in b (option_map (plain_equation table) (slice_get es b.first))) (slice_get-map (plain_equation table) es b.second)
       ∙ line-read b (slice_get es b.first) (slice_get es b.second)
 
-  lines-read : (es : List Equation) (bs : List Break) → flat_map (break_line rule_in origin_in (map (file_equation table) es)) bs ≡ flat_map (break_line rule_of origin_of es) bs
+  lines-read : (es : List Equation) (bs : List Break) → flat_map (break_line rule_in origin_in (map (plain_equation table) es)) bs ≡ flat_map (break_line rule_of origin_of es) bs
   lines-read es [] = refl
-  lines-read es (b ∷ bs) = ap (λ l. l ++ flat_map (break_line rule_in origin_in (map (file_equation table) es)) bs) (break_line-read es b) ∙ ap (λ l. break_line rule_of origin_of es b ++ l) (lines-read es bs)
+  lines-read es (b ∷ bs) = ap (λ l. l ++ flat_map (break_line rule_in origin_in (map (plain_equation table) es)) bs) (break_line-read es b) ∙ ap (λ l. break_line rule_of origin_of es b ++ l) (lines-read es bs)
 
   -- the text is the same
-  pub told_read : (es : List Equation) (bs : List Break) → broken_text rule_of origin_of es bs ≡ broken_text rule_in origin_in (map (file_equation table) es) bs
+  pub told_read : (es : List Equation) (bs : List Break) → broken_text rule_of origin_of es bs ≡ broken_text rule_in origin_in (map (plain_equation table) es) bs
   told_read es bs = ap (λ l. codes "ei: restrictions broken: " ++ decimal (length bs) ++ codes "\n" ++ l ++ more_line (length bs - most_told)) (sym (lines-read es (take most_told bs)))
 
 -- ---- what they break
 
 module _ (table : Table) (one : HasOneNumberEach table) (es : List Equation) (live : AreLive table es) where
   -- the same restrictions
-  pub lists_read : (bs : List Break) → Lists (numbered.IsViolation es) bs → Lists (Breaks (map (file_equation table) es)) bs
+  pub lists_read : (bs : List Break) → Lists (numbered.IsViolation es) bs → Lists (Breaks (map (plain_equation table) es)) bs
   lists_read bs lists =
-      (lists_violations_mapped in_read_class (read_rule table) rule_in (file_equation table) (λ e. refl) es bs).0
+      (lists_violations_mapped in_read_class (read_rule table) rule_in (plain_equation table) (λ e. refl) es bs).0
       ((lists_violations_read table one es live bs).0 lists)
 
-  pub none_read : ((b : Break) → numbered.IsViolation es b → ⊥) → BreaksNone (map (file_equation table) es)
+  pub none_read : ((b : Break) → numbered.IsViolation es b → ⊥) → BreaksNone (map (plain_equation table) es)
   none_read none b breaks =
-      none b ((violations_read table one es live b).1 ((violations_mapped in_read_class (read_rule table) rule_in (file_equation table) (λ e. refl) es b).1 breaks))
+      none b ((violations_read table one es live b).1 ((violations_mapped in_read_class (read_rule table) rule_in (plain_equation table) (λ e. refl) es b).1 breaks))

@@ -10,16 +10,17 @@ use Rattle.symbol_table.proofs.Keeping.{names_kept, includes_as}
 use Rattle.symbol_table.proofs.Rereading.{rule_kept, equations_kept}
 use Rattle.eq_base.specs.declared.meeting.SymbolClass.TheVariants.{TruthValues}
 use Rattle.ei_program.specs.declared.loading.Loaded.{Loaded}
-use Rattle.ei_program.specs.Definitions.{rule_in, system, file_equation, IsAccepted, definitions_of}
+use Rattle.qualifiers.specs.AsRead.{plain_equation}
+use Rattle.ei_program.specs.Definitions.{rule_in, system, IsAccepted, definitions_of}
 use Rattle.ei_program.specs.Loading.{IsReady}
 
 module _ (old new : Table) (k : Keeps old new) where
-  read_kept : (es : List Equation) → AreLive old es → map (file_equation new) es ≡ map (file_equation old) es
+  read_kept : (es : List Equation) → AreLive old es → map (plain_equation new) es ≡ map (plain_equation old) es
   read_kept [] live = refl
   read_kept (e ∷ es) live =
-      let first : file_equation new e ≡ file_equation old e = ap (λ r. record { rule = r; origin = e.origin }) (rule_kept old new k e (live 0 e (omega arith))) in
+      let first : plain_equation new e ≡ plain_equation old e = ap (λ r. record { rule = r; origin = e.origin }) (rule_kept old new k e (live 0 e (omega arith))) in
       let others = read_kept es (λ n d lt. live (suc n) d (omega arith)) in
-      ap (λ x. x ∷ map (file_equation new) es) first ∙ ap (λ xs. file_equation old e ∷ xs) others
+      ap (λ x. x ∷ map (plain_equation new) es) first ∙ ap (λ xs. plain_equation old e ∷ xs) others
 
 -- what is held, with another table
 abbrev pub held_with : Loaded → Table → Loaded
@@ -46,4 +47,4 @@ module _ (l : Loaded) (new : Table) (k : Keeps l.symbols new) (ready : IsReady l
 pub system-held : (l : Loaded) → system (definitions_of l) ≡ read_system l.symbols l.regular
 system-held l =
     ap (λ rules. record { rules = rules; in_class = in_read_class; value_of = value_of })
-    (map-map rule_in (file_equation l.symbols) (read_rule l.symbols) l.regular (λ e. refl))
+    (map-map rule_in (plain_equation l.symbols) (read_rule l.symbols) l.regular (λ e. refl))

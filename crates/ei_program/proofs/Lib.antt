@@ -2,7 +2,6 @@ mod Answering
 mod Cutting
 mod Meanings
 mod FileEquations
-mod Gathering
 mod Holding
 mod Answers
 mod Refusing
@@ -18,3 +17,4 @@ mod OneGiving
 mod OneInput
 mod OneDue
 mod Exact
+mod WrittenSteps

@@ -19,7 +19,8 @@ use Rattle.ei_program.specs.declared.outcome.Outcome.{Outcome}
 use Rattle.ei_program.specs.declared.outcome.Outcome.TheVariants.{Answered, Questions, BadWords, FileRefused, Broken, TermRefused, Stopped}
 use Rattle.ei_program.specs.declared.definitions.Equations.{Equations}
 use Rattle.ei_program.specs.declared.loading.Loaded.{Loaded}
-use Rattle.ei_program.specs.Definitions.{Definitions, file_equation, BreaksNone, Defines, definitions_in, definitions_of}
+use Rattle.qualifiers.specs.AsRead.{plain_equation}
+use Rattle.ei_program.specs.Definitions.{Definitions, BreaksNone, Defines, definitions_in, definitions_of}
 use Rattle.ei_program.specs.Restrictions.{origin_of, broken_text, AreBroken}
 use Rattle.ei_program.specs.Loading.{AreUsable, IsReady, IsAdmitted, IsLoaded}
 use Rattle.ei_program.proofs.Broken.{told_read, lists_read, none_read}
@@ -50,7 +51,7 @@ pub admitted : (e : Equations) (rules : List Equation) (file : List ℕ) → Def
     → IsAdmitted e (Ok (record { syntax = e.syntax; symbols = e.symbols; variables = e.variables; regular = rules }))
 admitted e rules file defines usable one same regular =
     let held : Loaded = record { syntax = e.syntax; symbols = e.symbols; variables = e.variables; regular = rules } in
-    let is : definitions_of held ≡ definitions_in e = ap (λ es. record { syntax = e.syntax; names = names_of e.symbols; variables = e.variables; equations = map (file_equation e.symbols) es }) same in (
+    let is : definitions_of held ≡ definitions_in e = ap (λ es. record { syntax = e.syntax; names = names_of e.symbols; variables = e.variables; equations = map (plain_equation e.symbols) es }) same in (
       is,
       record {
         accepted = record { file = file; defines = subst (Defines e.syntax file) (sym is) defines; regular = subst (λ (d : Definitions). BreaksNone d.equations) (sym is) (none_read e.symbols one e.rules usable.live (subst AreRegular same regular).no_violation) };

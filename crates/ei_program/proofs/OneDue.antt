@@ -22,8 +22,9 @@ use Rattle.eq_base.specs.Tree.{Tree}
 use Rattle.eq_base.specs.ReadHead.{ReadHead}
 use Rattle.eq_base.specs.Rules.{rule_of}
 use Rattle.regularity.specs.Listing.{Lists}
-use Rattle.ei_program.specs.Definitions.{FileEquation, Definitions, rule_in, Breaks, BreaksNone, GivesDefinitions, RefusesFile}
-use Rattle.ei_program.specs.Restrictions.{origin_of, origin_in, broken_text, AreBroken}
+use Rattle.qualifiers.specs.Expansion.{PlainEquation, origin_in}
+use Rattle.ei_program.specs.Definitions.{Definitions, Defines, rule_in, Breaks, BreaksNone, RefusesFile}
+use Rattle.ei_program.specs.Restrictions.{origin_of, broken_text, AreBroken}
 use Rattle.ei_program.specs.Run.{Given, HasFile, HasDefinitions, Accepts, AcceptsAnswer, AcceptsCheck, Leaves}
 use Rattle.ei_program.specs.Due.{CanAnswer, HasTermFault, IsDue, AnswersDue}
 use Rattle.ei_program.proofs.CommandLines.{one_last}
@@ -100,10 +101,10 @@ module _ (given : Given) where
       (same.0, some_same bytes bytes' (sym h.found ∙ ap given.named same.1 ∙ k.found))
 
   -- the definitions that two commands have are of one file
-  both_give : (task other : Task) (d e : Definitions) (h : HasDefinitions given task d) → HasDefinitions given other e → GivesDefinitions task.syntax h.bytes e
+  both_give : (task other : Task) (d e : Definitions) (h : HasDefinitions given task d) → HasDefinitions given other e → Defines task.syntax h.bytes e
   both_give task other d e h k =
       let same = one_file task other h.bytes k.bytes h.file k.file in
-      subst (λ bytes. GivesDefinitions task.syntax bytes e) (sym same.1) (subst (λ (t : Task). GivesDefinitions t.syntax k.bytes e) (sym same.0) k.defines.0)
+      subst (λ bytes. Defines task.syntax bytes e) (sym same.1) (subst (λ (t : Task). Defines t.syntax k.bytes e) (sym same.0) k.defines)
 
   has_or_refused : (task other : Task) (d : Definitions) (bytes : List ℕ) (f : Fault) → HasDefinitions given task d → HasFile given other bytes → RefusesFile other.syntax bytes f → ⊥
   has_or_refused task other d bytes f h k why =
@@ -112,19 +113,19 @@ module _ (given : Given) where
 
   -- ---- the restrictions
 
-  regular_or_broken : (es : List FileEquation) (breaks : List Break) (rules : List Equation) → BreaksNone es → AreBroken es breaks rules → ⊥
+  regular_or_broken : (es : List (PlainEquation ReadHead)) (breaks : List Break) (rules : List Equation) → BreaksNone es → AreBroken es breaks rules → ⊥
   regular_or_broken es [] rules regular broken = let some = broken.some in omega (arith, some)
   regular_or_broken es (b ∷ bs) rules regular broken = regular b (broken.listed.only b (0, broken.some, refl))
 
   accepts_or_broken : (task other : Task) (d e : Definitions) (breaks : List Break) (rules : List Equation) → Accepts given task d → HasDefinitions given other e → AreBroken e.equations breaks rules → ⊥
   accepts_or_broken task other d e breaks rules a k broken =
-      let same = one_given task.syntax a.definitions.bytes d e a.definitions.defines.0 (both_give task other d e a.definitions k) in
+      let same = one_given task.syntax a.definitions.bytes d e a.definitions.defines (both_give task other d e a.definitions k) in
       regular_or_broken e.equations breaks rules (subst (λ (o : Definitions). BreaksNone o.equations) same a.regular) broken
 
   one_broken : (task other : Task) (d e : Definitions) (bs cs : List Break) (rs ss : List Equation) → HasDefinitions given task d → HasDefinitions given other e → AreBroken d.equations bs rs → AreBroken e.equations cs ss
       → (cs ≡ bs) × (broken_text rule_of origin_of ss bs ≡ broken_text rule_of origin_of rs bs)
   one_broken task other d e bs cs rs ss h k one two =
-      let same = one_given task.syntax h.bytes d e h.defines.0 (both_give task other d e h k) in
+      let same = one_given task.syntax h.bytes d e h.defines (both_give task other d e h k) in
       let listed = one_listing (Breaks e.equations) cs bs two.listed (subst (λ (o : Definitions). Lists (Breaks o.equations) bs) same one.listed) in (
         listed,
         ap (broken_text rule_of origin_of ss) (sym listed) ∙ two.told ∙ ap (broken_text rule_in origin_in e.equations) listed
@@ -135,10 +136,10 @@ module _ (given : Given) where
 
   module _ (task other : Task) (d e : Definitions) (a : Accepts given task d) (b : Accepts given other e) where
     same_definitions : d ≡ e
-    same_definitions = one_given task.syntax a.definitions.bytes d e a.definitions.defines.0 (both_give task other d e a.definitions b.definitions)
+    same_definitions = one_given task.syntax a.definitions.bytes d e a.definitions.defines (both_give task other d e a.definitions b.definitions)
 
     distinct : HasDistinctNames d.names
-    distinct = given_distinct task.syntax a.definitions.bytes d a.definitions.defines.0
+    distinct = given_distinct task.syntax a.definitions.bytes d a.definitions.defines
 
     one_term_fault : (f g : Fault) → RefusesInput d.syntax d.names given.input f → RefusesInput e.syntax e.names given.input g → f ≡ g
     one_term_fault f g r s = one_fault d.syntax d.names distinct given.input f g r (subst (λ (o : Definitions). RefusesInput o.syntax o.names given.input g) (sym same_definitions) s)

@@ -45,7 +45,7 @@ IsDue given (TermRefused fault) = HasTermFault given fault
 IsDue given Answered = CanAnswer given ⊎ ((d : Definitions) × AcceptsCheck given d)
 IsDue given outcome = ⊥
 
--- the outcome is the one that is due; of terms that can be answered, some may be answered by `? spent`, and breaks are
+-- the outcome is the one that is due; of terms that can be answered, some may be answered by lines that begin with `?`, and breaks are
 -- told by the same text
 abbrev pub AnswersDue : Outcome → Outcome → Type 0
 AnswersDue Answered outcome = (outcome ≡ Answered) ⊎ (outcome ≡ Questions)

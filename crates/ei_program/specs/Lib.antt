@@ -4,7 +4,6 @@ pub mod Outcomes
 pub mod Words
 pub mod Taking
 pub mod Definitions
-pub mod Gathering
 pub mod Input
 pub mod Lines
 pub mod Printing

@@ -5,21 +5,17 @@ use Rattle.std.specs.declared.option.Option.TheVariants.{Some}
 use Rattle.std.specs.Prelude.{Vec}
 use Rattle.std.specs.declared.alloc.Global.{Global}
 use Rattle.eq_ports.specs.Causes.{Rose}
-use Rattle.term_lex.specs.declared.fault.FaultKind.TheVariants.{FileLong, NotYet}
+use Rattle.term_lex.specs.declared.fault.FaultKind.TheVariants.{FileLong}
 use Rattle.term_lex.specs.declared.syntax.Syntax.{Syntax}
 use Rattle.symbol_table.specs.Reading.{AreLive}
-use Rattle.def_file.specs.declared.definitions.Definitions.{Definitions as FileDefinitions}
-use Rattle.def_file.specs.AsRead.{definitions_read}
 use Rattle.sequentiality.specs.Regular.{AreRegular}
 use Rattle.orthogonal_laws.specs.Operations.{AreTruthsKnown}
-use Rattle.def_file.specs.declared.error.FileError.{FileError}
-use Rattle.def_file.specs.declared.error.FileError.TheVariants.{Refused}
 use Rattle.ei_program.specs.declared.stop.Stop.TheVariants.{NoMemory, ReadFailed, WriteFailed}
 use Rattle.ei_program.specs.declared.outcome.Outcome.{Outcome}
 use Rattle.ei_program.specs.declared.outcome.Outcome.TheVariants.{BadWords, FileRefused, Broken, Stopped}
 use Rattle.ei_program.specs.declared.definitions.Equations.{Equations}
 use Rattle.ei_program.specs.declared.loading.Loaded.{Loaded}
-use Rattle.ei_program.specs.Definitions.{Definitions, file_equations, AreSmall, as_equations, BreaksNone, IsAccepted, Defines, RefusesFile, definitions_in, definitions_of}
+use Rattle.ei_program.specs.Definitions.{Definitions, BreaksNone, IsAccepted, Defines, RefusesFile, definitions_in, definitions_of}
 use Rattle.ei_program.specs.Restrictions.{AreBroken}
 
 -- these are the bytes of the file; or it is not there, or not taken whole
@@ -31,15 +27,6 @@ IsFileTaken found (Err (FileRefused fault)) =
 IsFileTaken found (Err (Stopped NoMemory)) = Unit {0}
 IsFileTaken found (Err (Stopped ReadFailed)) = Unit {0}
 IsFileTaken found (Err outcome) = ⊥
-
--- what a file says is taken as equations, which are not too large; or they are; or memory ran out
-abbrev pub AreGathered : Syntax → FileDefinitions → Result Equations FileError → Type 0
-AreGathered syntax read (Ok equations) =
-    (definitions_in equations ≡ as_equations syntax (definitions_read read))
-    × AreSmall (file_equations (definitions_read read).items)
-AreGathered syntax read (Err (Refused fault)) =
-    (¬ AreSmall (file_equations (definitions_read read).items)) × (fault ≡ record { kind = NotYet; byte = 0 })
-AreGathered syntax read (Err error) = Unit {0}
 
 -- each number in the equations is live, and the truth values are declared where the value of an operation is one
 pub record AreUsable (e : Equations) : Type 0 where

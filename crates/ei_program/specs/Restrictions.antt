@@ -8,7 +8,9 @@ use Rattle.eq_base.specs.declared.rules.Origin.{Origin}
 use Rattle.eq_base.specs.declared.rules.Equation.{Equation}
 use Rattle.regularity.specs.declared.breaks.Break.{Break}
 use Rattle.regularity.specs.Listing.{Lists}
-use Rattle.ei_program.specs.Definitions.{FileEquation, rule_in, Breaks}
+use Rattle.eq_base.specs.ReadHead.{ReadHead}
+use Rattle.qualifiers.specs.Expansion.{PlainEquation, origin_in}
+use Rattle.ei_program.specs.Definitions.{rule_in, Breaks}
 
 -- the number of a part, behind a dot, where the item has parts
 abbrev pub part_name : ℕ → List ℕ
@@ -98,12 +100,9 @@ module _ {H E : Type 0} (rule : E → Rule H) (origin : E → Origin) where
 abbrev pub origin_of : Equation → Origin
 origin_of e = e.origin
 
-abbrev pub origin_in : FileEquation → Origin
-origin_in e = e.origin
-
 -- these are the breaks of the equations, of which there is one at least; the rules that came back tell of them as the
 -- equations do
-pub record AreBroken (equations : List FileEquation) (breaks : List Break)
+pub record AreBroken (equations : List (PlainEquation ReadHead)) (breaks : List Break)
     (rules : List Equation) : Type 0 where
   pub listed : Lists (Breaks equations) breaks
   pub some : 0 < length breaks

@@ -15,7 +15,7 @@ use Rattle.ei_program.specs.Words.{Asks, IsCommandLine}
 use Rattle.ei_program.specs.Definitions.{Definitions, Defines, RefusesFile, BreaksNone}
 use Rattle.ei_program.specs.Restrictions.{AreBroken}
 use Rattle.ei_program.specs.Input.{Terms, Holds, HasInputFault, RefusesInput}
-use Rattle.ei_program.specs.Lines.{IsNormalForm, IsSpent, IsLine, AreLines, SomeLine, ended, text_of_lines, accepted_line}
+use Rattle.ei_program.specs.Lines.{IsNormalForm, IsQuestion, IsLine, AreLines, SomeLine, ended, text_of_lines, accepted_line}
 
 -- what a run is given: its words, the bytes under each name, and its input
 pub record Given : Type 0 where
@@ -64,10 +64,10 @@ pub record AnswersFirst (budget : ℕ) (d : Definitions) (text : List ℕ) (line
   pub reads : Terms d.syntax d.names text 0 terms last
   pub fit : AreLines (IsLine budget d) terms lines
 
--- all terms are answered, and some by `? spent`
+-- all terms are answered, and some by a line that begins with `?`
 pub record AnswersInPart (budget : ℕ) (d : Definitions) (text : List ℕ) (lines : List (List ℕ)) : Type 0 where
   pub answers : AreAnswers (IsLine budget d) d text lines
-  pub some : SomeLine (IsSpent budget d) answers.terms lines
+  pub some : SomeLine (IsQuestion budget d) answers.terms lines
 
 -- what was written when a text was answered, by the outcome
 abbrev pub TextLeft : ℕ → Definitions → List ℕ → Outcome → List ℕ → Type 0

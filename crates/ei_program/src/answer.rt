@@ -1,12 +1,15 @@
 // The answering of the terms of a text.
-ghost use Rattle.std.specs.Prelude.{ℕ, IfOk};
+ghost use Rattle.std.specs.Prelude.{◌≡◌, ◌<◌, ◌++◌, ℕ, IfOk};
+ghost use Rattle.eq_base.specs.Tree.{Tree, size, nth_subtree};
+ghost use Rattle.eq_base.specs.ReadHead.{ReadHead};
+ghost use Rattle.symbol_table.specs.Table.{names_of};
 ghost use Rattle.symbol_table.specs.Reading.{read, IsLiveTerm};
 ghost use Rattle.ei_program.specs.Definitions.{Definitions, definitions_of};
 ghost use Rattle.ei_program.specs.Loading.{IsReady};
 ghost use Rattle.ei_program.specs.Run.{TextLeft, LeavesOn};
-ghost use Rattle.ei_program.specs.Answering.{IsLineOf, IsWriteOutcome, LineLeft};
-ghost use Rattle.eq_base.specs.Tree.{Tree};
-ghost use Rattle.eq_base.specs.ReadHead.{ReadHead};
+ghost use Rattle.ei_program.specs.Answering.{IsLineOf, IsLineOfForm, IsWriteOutcome, LineLeft};
+ghost use Rattle.ei_program.specs.Printing.{print};
+ghost use Rattle.ei_program.specs.Lines.{ended};
 
 use crate::input::read_input;
 use crate::loading::Loaded;
@@ -15,7 +18,7 @@ use crate::outcome::Outcome;
 use crate::stop::Stop;
 use eq_base::{Flat, NoMemory};
 use eq_ports::{Sink, write_whole};
-use orthogonal_laws::{PlainEnd, plain_run};
+use orthogonal_laws::{PlainEnd, first_past, plain_run};
 use std::alloc::Global;
 use written_terms::ReadError;
 
@@ -24,6 +27,8 @@ use written_terms::ReadError;
 pub enum LineKind {
     /// The normal form.
     NormalForm,
+    /// That the normal form has a part whose value is past the limits: `? past w`, w being the first such part.
+    Past,
     /// That the budget was spent: `? spent N`.
     Spent,
 }
@@ -35,6 +40,47 @@ pub struct Line {
     pub text: Vec<u8>,
 }
 
+/// The line of a kind that prints the part of a term at a node, behind these bytes.
+fn printed(
+    alloc: Global,
+    loaded: &Loaded,
+    kind: LineKind,
+    front: &[u8],
+    term: &Flat,
+    node: usize,
+) -> Result<Line, NoMemory>
+    requires live { IsLiveTerm loaded.now.symbols term.now }
+    requires node { node < size term.now }
+    ensures kind { IfOk result (λ line. line.kind ≡ kind) }
+    ensures text { IfOk result (λ line. line.text.items ≡ ended (front.now ++ print loaded.now.syntax
+        (names_of loaded.now.symbols) (nth_subtree (read loaded.now.symbols term.now) node))) }
+{
+    let mut text = Vec::new(alloc);
+    text.extend_from_slice(front)?;
+    write_term(
+        alloc,
+        loaded.syntax,
+        &loaded.symbols,
+        term,
+        node,
+        &mut text,
+    )?;
+    text.push(b'\n')?;
+    Ok(Line { kind, text })
+}
+
+/// The line of a normal form: its print, or its first part whose value is past the limits.
+fn line_of_form(alloc: Global, loaded: &Loaded, form: &Flat) -> Result<Line, NoMemory>
+    requires ready { IsReady loaded.now }
+    requires live { IsLiveTerm loaded.now.symbols form.now }
+    ensures { IfOk result (IsLineOfForm (definitions_of loaded.now) (read loaded.now.symbols form.now)) }
+{
+    match first_past(&loaded.regular, &loaded.symbols, form) {
+        Some(node) => printed(alloc, loaded, LineKind::Past, b"? past ", form, node),
+        None => printed(alloc, loaded, LineKind::NormalForm, b"", form, 0),
+    }
+}
+
 /// The line that answers a term.
 fn line_of(alloc: Global, loaded: &mut Loaded, budget: u64, term: Flat) -> Result<Line, NoMemory>
     requires ready { IsReady loaded.old }
@@ -44,15 +90,7 @@ fn line_of(alloc: Global, loaded: &mut Loaded, budget: u64, term: Flat) -> Resul
 {
     loaded.symbols.has_one_number_each();
     match plain_run(alloc, &loaded.regular, &mut loaded.symbols, term, budget)? {
-        PlainEnd::Normal(form, _) => {
-            let mut text = Vec::new(alloc);
-            write_term(alloc, loaded.syntax, &loaded.symbols, &form, &mut text)?;
-            text.push(b'\n')?;
-            Ok(Line {
-                kind: LineKind::NormalForm,
-                text,
-            })
-        }
+        PlainEnd::Normal(form, _) => line_of_form(alloc, loaded, &form),
         PlainEnd::Spent(_) => {
             let text = format!(in alloc; "? spent {budget}\n")?;
             Ok(Line {
@@ -74,7 +112,7 @@ fn write_line<O: Sink>(line: &Line, output: &mut O) -> Outcome
     }
     match line.kind {
         LineKind::NormalForm => Outcome::Answered,
-        LineKind::Spent => Outcome::Questions,
+        LineKind::Past | LineKind::Spent => Outcome::Questions,
     }
 }
 

@@ -1,5 +1,6 @@
 // Terms in the notation of a run.
-ghost use Rattle.std.specs.Prelude.{◌≡◌, ◌≤◌, ◌++◌, length, IfOk, OnOk};
+ghost use Rattle.std.specs.Prelude.{◌≡◌, ◌<◌, ◌≤◌, ◌++◌, length, IfOk, OnOk};
+ghost use Rattle.eq_base.specs.Tree.{size, nth_subtree};
 ghost use Rattle.symbol_table.specs.Table.{Keeps, names_of};
 ghost use Rattle.symbol_table.specs.Reading.{read, IsLiveTerm};
 ghost use Rattle.written_terms.specs.Refusing.{IsTermAt};
@@ -37,20 +38,22 @@ pub fn read_term(
     }
 }
 
-/// Appends the print of the term.
+/// Appends the print of the term's part at a node.
 pub fn write_term(
     alloc: Global,
     syntax: Syntax,
     symbols: &Symbols,
     term: &Flat,
+    node: usize,
     into: &mut Vec<u8>,
 ) -> Result<(), NoMemory>
-    requires { IsLiveTerm symbols.now term.now }
-    ensures { OnOk result (into.new.items
-        ≡ into.old.items ++ print syntax (names_of symbols.now) (read symbols.now term.now)) }
+    requires live { IsLiveTerm symbols.now term.now }
+    requires node { node < size term.now }
+    ensures { OnOk result (into.new.items ≡ into.old.items
+        ++ print syntax (names_of symbols.now) (nth_subtree (read symbols.now term.now) node)) }
 {
     match syntax {
-        Syntax::Standmath => standmath::write_term(alloc, symbols, term, 0, into),
-        Syntax::LispM => lisp_m::write_term(alloc, symbols, term, 0, into),
+        Syntax::Standmath => standmath::write_term(alloc, symbols, term, node, into),
+        Syntax::LispM => lisp_m::write_term(alloc, symbols, term, node, into),
     }
 }

@@ -43,11 +43,11 @@ For all x, y:
 ";
 
 const BROKEN: &str = "Symbols if: 3; g: 2; first: 1; pred: 1; succ: 1; h: 1; k: 1; c: 0;
-  n0: 0; n1: 0.
+  include integer_numerals.
 For all x, y:
   if(x, y, y) = y;
-  g(n0, x) = n0;
-  g(x, n1) = n1;
+  g(0, x) = 0;
+  g(x, 1) = 1;
   first(pred(x)) = c;
   pred(succ(x)) = x;
   h(x) = k(y).
@@ -67,10 +67,58 @@ For all x, y:
   f(x) = g(x) where x is either a or s(y) end or end where.
 ";
 
-const APPEND: &str = "Symbols cons: 2; nil: 0; append: 2; a: 0; b: 0.
+const APPEND: &str = "Symbols cons: 2; nil: 0; append: 2; include integer_numerals.
 For all x, y, z:
   append[(); y] = y;
   append[(x . y); z] = (x . append[y; z]).
+";
+
+const ARITHMETIC: &str = "Symbols add: 2; divide: 2; modulo: 2; fst: 2;
+  include integer_numerals.
+For all x, y:
+  fst(x, y) = x;
+  include addint, divint, modint.
+";
+
+const TEXT: &str = "Symbols concat: 2; length: 1; equ: 2;
+  include strings, integer_numerals, truth_values, atomic_symbols.
+For all:
+  include concatstr, lengthstr, equint, equatom, equstr.
+";
+
+const FACTORIAL: &str = "Symbols fact: 1; if: 3; equ: 2; multiply: 2; subtract: 2;
+  include integer_numerals, truth_values.
+For all x, y:
+  if(true, x, y) = x;
+  if(false, x, y) = y;
+  fact(x) = if(equ(x, 0), 1, multiply(x, fact(subtract(x, 1))));
+  include equint, multint, subint.
+";
+
+const CLASSES: &str = "Symbols h: 1; include integer_numerals.
+For all n:
+  h(n) = 1 where n is in integer_numerals end where;
+  h(n) = 1 where n is in integer_numerals end where;
+  h(0) = 1.
+";
+
+const MANY_CHOICES: &str = "Symbols a: 0; b: 0; f: 13.
+For all c, d, e, g, h, i, j, k, l, m, n, o, p:
+  f(c, d, e, g, h, i, j, k, l, m, n, o, p) = a where
+    c is either a or b end or,
+    d is either a or b end or,
+    e is either a or b end or,
+    g is either a or b end or,
+    h is either a or b end or,
+    i is either a or b end or,
+    j is either a or b end or,
+    k is either a or b end or,
+    l is either a or b end or,
+    m is either a or b end or,
+    n is either a or b end or,
+    o is either a or b end or,
+    p is either a or b end or
+  end where.
 ";
 
 const TWICE: &str = "Symbols a: 0; a: 1. For all: a = a.";
@@ -200,6 +248,58 @@ fn answers(rt: HostRuntime) -> Result<(), Fail> {
         ),
         (COMBINATORS, "AP(AP(AP(S, K), K), q).", 0, "q\n"),
         ("Symbols a: 0. For all: .", "a.", 0, "a\n"),
+        (EITHER, "f(s(a)).", 0, "g(s(a))\n"),
+        (EITHER, "f(b).", 0, "f(b)\n"),
+    ] {
+        let row = Row {
+            file,
+            input,
+            status,
+            output,
+            ..ADDITION
+        };
+        expect(&rt, rt.alloc(), &row)?;
+    }
+    Ok(())
+}
+
+#[test]
+fn operations(rt: HostRuntime) -> Result<(), Fail> {
+    for (file, input, status, output) in [
+        (
+            ARITHMETIC,
+            "add(170141183460469231731687303715884105727, 1).",
+            3,
+            "? past add(170141183460469231731687303715884105727, 1)\n",
+        ),
+        (
+            ARITHMETIC,
+            "fst(1, add(170141183460469231731687303715884105727, 1)).",
+            0,
+            "1\n",
+        ),
+        (ARITHMETIC, "divide(5, 0).", 0, "divide(5, 0)\n"),
+        (ARITHMETIC, "modulo(-7, 2).", 0, "1\n"),
+        (ARITHMETIC, "divide(-7, 2).", 0, "-4\n"),
+        (
+            ARITHMETIC,
+            "divide(-170141183460469231731687303715884105728, -1).",
+            3,
+            "? past divide(-170141183460469231731687303715884105728, -1)\n",
+        ),
+        (TEXT, "concat(\"ab\", \"c\").", 0, "\"abc\"\n"),
+        (TEXT, "length(concat(\"ab\", \"\")).", 0, "2\n"),
+        (TEXT, "equ(\"a\", \"a\").", 0, "true\n"),
+        (TEXT, "equ(u, v).", 0, "false\n"),
+        (TEXT, "equ(u, 1).", 0, "equ(u, 1)\n"),
+        (TEXT, "equ(true, true).", 0, "equ(true, true)\n"),
+        (FACTORIAL, "fact(20).", 0, "2432902008176640000\n"),
+        (
+            FACTORIAL,
+            "fact(34).",
+            3,
+            "? past multiply(34, 8683317618811886495518194401280000000)\n",
+        ),
     ] {
         let row = Row {
             file,
@@ -250,18 +350,10 @@ fn refused_files(rt: HostRuntime) -> Result<(), Fail> {
             "ei: equations refused: NumeralPast at byte 51\n",
         ),
         (
-            "Symbols h: 1; include integer_numerals. For all: h(-170141183460469231731687303715884105728) = 0.",
-            "ei: equations refused: NotYet at byte 14\n",
+            "Symbols f: 1; s: 1; a: 0. For all x: f(x) = a where x is either s(x) end or end where.",
+            "ei: equations refused: QualifierCircle at byte 52\n",
         ),
-        (
-            "Symbols h: 1; include strings. For all: .",
-            "ei: equations refused: NotYet at byte 14\n",
-        ),
-        (
-            "Symbols f: 1; a: 0. For all x: f(x) = a where x is either a end or end where.",
-            "ei: equations refused: NotYet at byte 46\n",
-        ),
-        (EITHER, "ei: equations refused: NotYet at byte 72\n"),
+        (MANY_CHOICES, "ei: equations refused: ExpansionPast at byte 76\n"),
     ] {
         let row = Row {
             file,
@@ -279,12 +371,18 @@ fn refused_files(rt: HostRuntime) -> Result<(), Fail> {
 fn lists(rt: HostRuntime) -> Result<(), Fail> {
     let words = ["--syntax=lisp.m", "E"];
     for (file, input, status, output, errors) in [
-        (APPEND, "append[(a b); (b . a)].", 0, "(a b b . a)\n", ""),
-        (APPEND, "cons[a; nil].", 0, "(a)\n", ""),
+        (
+            APPEND,
+            "append[(1 2); (3 . 4)].",
+            0,
+            "(1 2 3 . 4)\n",
+            "",
+        ),
+        (APPEND, "cons[1; nil].", 0, "(1)\n", ""),
         (APPEND, "append[(); ()].", 0, "()\n", ""),
         (
             APPEND,
-            "( . a).",
+            "( . 1).",
             6,
             "",
             "ei: term refused: DotPlace at byte 2\n",
@@ -333,7 +431,7 @@ fn broken_restrictions(rt: HostRuntime) -> Result<(), Fail> {
             "ei: restrictions broken: 1\nRE5 equation 1 at 1 with equation 2\n",
         ),
         (
-            "Symbols or: 2; true: 0. For all x: or(true, x) = true; or(x, true) = true.",
+            "Symbols or: 2; include truth_values. For all x: or(true, x) = true; or(x, true) = true.",
             "ei: restrictions broken: 1\nRE5 equation 1 at root with equation 2\n",
         ),
         (
@@ -348,6 +446,36 @@ RE4 equation 4 at 1 with equation 5
         (
             "Symbols f: 1. For all x: f(f(x)) = x.",
             "ei: restrictions broken: 1\nRE4 equation 1 at 1 with equation 1\n",
+        ),
+        (
+            "Symbols h: 1; include integer_numerals. For all n:
+               h(n) = 1 where n is in integer_numerals end where;
+               h(n) = 1 where n is in integer_numerals end where; h(0) = 2.",
+            "ei: restrictions broken: 2
+RE3 equation 1 with equation 3
+RE3 equation 2 with equation 3
+",
+        ),
+        (
+            "Symbols h: 1; include integer_numerals. For all n:
+               h(n) = 1 where n is in integer_numerals end where; h(0) = 2; h(0) = 2.",
+            "ei: restrictions broken: 2
+RE3 equation 1 with equation 2
+RE3 equation 1 with equation 3
+",
+        ),
+        (
+            "Symbols a: 0; b: 0; c: 0; d: 0; f: 1. For all x:
+               f(x) = c where x is either a or b end or end where; f(a) = d.",
+            "ei: restrictions broken: 1\nRE3 equation 1.1 with equation 2\n",
+        ),
+        (
+            "Symbols a: 0; b: 0; f: 1. For all x, y:
+               f(x) = y where x is either a or y end or, y is either a or b end or end where.",
+            "ei: restrictions broken: 2
+RE3 equation 1.1 with equation 1.2
+RE3 equation 1.2 with equation 1.3
+",
         ),
     ] {
         let row = Row {
@@ -497,6 +625,13 @@ fn checked_files(rt: HostRuntime) -> Result<(), Fail> {
     for (file, status, output, errors) in [
         (COMBINATORS, 0, "accepted 2\n", ""),
         ("Symbols a: 0. For all: .", 0, "accepted 0\n", ""),
+        (CLASSES, 0, "accepted 3\n", ""),
+        (
+            "Symbols h: 1; include integer_numerals. For all: h(-170141183460469231731687303715884105728) = 0.",
+            0,
+            "accepted 1\n",
+            "",
+        ),
         (TWICE, 4, "", "ei: equations refused: Twice at byte 14\n"),
         (
             INNER_OVERLAP,

@@ -1,6 +1,8 @@
 // The top call: a run, and what is told of it.
 ghost use Rattle.std.specs.Prelude.{◌≡◌, ◌≢◌, ◌⊎◌, ◌≤◌, ◌↔◌, ℕ, List, Option, Some, map, string_bytes};
 ghost use Rattle.eq_ports.specs.Causes.{Rose};
+ghost use Rattle.term_lex.specs.declared.syntax.Syntax.{Syntax};
+ghost use Rattle.ei_program.specs.Definitions.{Definitions, Defines, BreaksNone, HasWrittenSteps};
 ghost use Rattle.ei_program.specs.Words.{IsCommandLine};
 ghost use Rattle.ei_program.specs.Outcomes.{CanBeTold};
 ghost use Rattle.ei_program.specs.declared.outcome.Outcome.{Outcome as Due};
@@ -76,6 +78,11 @@ pub fn ei<F: Files, I: Source, O: Sink, E: Sink>(
         → (¬ Rose (O.faults output.old) (O.faults output.new))
         → (¬ Rose (E.faults errors.old) (E.faults errors.new))
         → ComesTo due (E.taken errors.old) (E.taken errors.new) result }
+
+    // By whatever file: the root steps by its equations are exactly the instances of its own items, as they
+    // are written.
+    ensures steps { (syntax : Syntax) (file : List ℕ) (d : Definitions) → Defines syntax file d
+        → BreaksNone d.equations → HasWrittenSteps syntax file d }
 
     // The words are refused only where they are no command line.
     ensures words { result ≡ Status.Words → ¬ IsCommandLine (map string_bytes words.items) }

@@ -14,23 +14,29 @@ use Rattle.def_file.specs.AsRead.{QualifierOf, EquationOf, ItemOf, Equation, Cla
 use Rattle.symbol_table.specs.Table.{names_of}
 use Rattle.qualifiers.specs.Equations.{Unnumbered}
 
+-- a qualifier, its alternatives as trees
 abbrev pub qualifier_held : Qualifier → QualifierOf Head
 qualifier_held q = record { variable = q.variable; choices = q.choices; byte = q.byte }
 
+-- all of them
 abbrev pub qualifiers_held : List Qualifier → List (QualifierOf Head)
 qualifiers_held qs = map qualifier_held qs
 
+-- a written equation
 abbrev pub equation_held : Written → EquationOf Head
 equation_held e =
     record { left = e.left; right = e.right; qualifiers = qualifiers_held e.qualifiers; byte = e.byte }
 
+-- an item: an equation, or the operation of a class
 abbrev pub item_held : Item → ItemOf Head
 item_held (item.Equation e) = Equation (equation_held e)
 item_held (item.Class op byte) = Class op byte
 
+-- an item with its number
 abbrev pub numbered_held : Numbered → NumberedOf Head
 numbered_held n = record { item = item_held n.item; number = n.number }
 
+-- all items
 abbrev pub items_held : List Numbered → List (NumberedOf Head)
 items_held items = map numbered_held items
 

@@ -1,6 +1,7 @@
 use Rattle.ei_program.specs.Run.{Given}
 use Rattle.ei_program.specs.Due.{IsDue}
 use Rattle.ei_program.proofs.Exact.{comes_to}
+use Rattle.ei_program.proofs.WrittenSteps.{written_steps}
 use Rattle.std.proofs.Common.{⊎_elim, List, subst, sym, map, string_bytes, String}
 use Rattle.std.specs.declared.alloc.Global.{Global}
 use Rattle.ei_program.specs.Words.{IsCommandLine}
@@ -32,3 +33,6 @@ returns-clause-exact g c = λ named bytes known is due is_due no_file no_input n
     comes_to given (g.I.Source.left r.new.input) r.result left.0 left.1 due (subst W (sym c.deref.ensures.value) is_due)
     (λ e. ⊎_elim no_file no_input (r.ensures.read e)) (λ e. no_output (r.ensures.write e))
     (g.E.Sink.taken c.args.errors.now) (g.E.Sink.taken c.tell.new.errors) c.tell.result told.told (λ e other. no_error (told.write e other))
+
+pub returns-clause-steps : goal.returns-clause-steps
+returns-clause-steps g c = written_steps
