@@ -1,12 +1,12 @@
 -- The root steps by a file's equations are the instances of its own items.
-use Rattle.std.proofs.Common.{◌≡◌, ℕ, List, refl, sym, ap, ◌∙◌, subst, inl, inr}
+use Rattle.std.proofs.Common.{◌≡◌, ℕ, List, map, refl, sym, ap, ◌∙◌, subst, inl, inr}
 use Rattle.std.specs.Prelude.{Contains, Some, slice_get}
 use Rattle.std.proofs.lemmas.Option.{slice_get-get_or}
 use Rattle.eq_base.specs.Tree.{Tree, Forest, node, empty, grow, map_all_heads}
 use Rattle.eq_base.specs.Pattern.{PatternCell, fixed, variable, restricted, variables}
 use Rattle.eq_base.specs.Testing.{IsPattern, ArePatterns}
 use Rattle.eq_base.specs.Mapping.{map_cell, map_pattern}
-use Rattle.eq_base.specs.Rewriting.{RightSide, pattern, operation}
+use Rattle.eq_base.specs.Rewriting.{RightSide, pattern, operation, RootStep}
 use Rattle.eq_base.specs.ReadHead.{ReadHead, symbol, in_read_class}
 use Rattle.eq_base.specs.Operations.{value_of}
 use Rattle.eq_base.specs.declared.head.Head.{Head}
@@ -18,6 +18,7 @@ use Rattle.regularity.specs.Listing.{break_at}
 use Rattle.regularity.specs.Restrictions.{HasUnbound}
 use Rattle.regularity.proofs.MappedPatterns.{has_unbound-unmap}
 use Rattle.orthogonal_laws.proofs.Singles.{bound_of}
+use Rattle.def_file.specs.AsRead.{ReadDefinitions}
 use Rattle.def_file.proofs.Lawful.{lawful_of}
 use Rattle.def_file.proofs.OneAnswer.{says_one}
 use Rattle.qualifiers.specs.Expansion.{PlainEquation}
@@ -25,7 +26,7 @@ use Rattle.qualifiers.specs.AsRead.{IsExpansion}
 use Rattle.qualifiers.proofs.SaysProper.{says_proper}
 use Rattle.qualifiers.proofs.Whole.{same_instances}
 use Rattle.qualifiers.proofs.SameClasses.{IsProperRule, StandOnLeft, expansion_proper, instances_are_steps}
-use Rattle.ei_program.specs.Definitions.{Definitions, BreaksNone, Defines, HasWrittenSteps}
+use Rattle.ei_program.specs.Definitions.{Definitions, rule_in, BreaksNone, Defines, HasWrittenSteps}
 
 -- ---- variables, whatever the heads
 
@@ -77,5 +78,5 @@ written_steps syntax text d g none read says t u =
     let instances = same_instances read d.equations proper expansion t u in
     let steps = instances_are_steps value_of (in_read_class read.classes) d.equations t u each (λ e listed. on_left d none e listed (each e listed)) in
     let classes : read.classes ≡ d.classes = ap (λ (r : ReadDefinitions). r.classes) (sym same) ∙ sym g.classes in
-    let system_is = ap (λ (c : List (List ReadHead)). RootStep (record { rules = map rule_in d.equations; in_class = in_read_class c; value_of = value_of }) t u) classes in
-    (λ i. subst (λ X. X) system_is (steps.0 (instances.0 i)), λ s. instances.1 (steps.1 (subst (λ X. X) (sym system_is) s)))
+    let Steps : List (List ReadHead) → Type 0 = λ c. RootStep (record { rules = map rule_in d.equations; in_class = in_read_class c; value_of = value_of }) t u in
+    (λ i. subst Steps classes (steps.0 (instances.0 i)), λ s. instances.1 (steps.1 (subst Steps (sym classes) s)))

@@ -8,7 +8,7 @@ use Rattle.ei_program.proofs.BreaksInLists.{break_in_list}
 use Rattle.ei_program.proofs.restrictions.broken_text.Goals as goal
 
 pub break_line-requires : goal.break_line-requires
-break_line-requires c = break_in_list c.args.rules.now.equations c.args.breaks.now c.get.result c.requires c.loop-i.i c.get.ensures
+break_line-requires c = break_in_list c.args.rules.now c.args.breaks.now c.get.result c.requires c.loop-i.i c.get.ensures
 
 pub loop-i-preserved : goal.loop-i-preserved
 loop-i-preserved c =
