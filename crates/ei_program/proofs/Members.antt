@@ -1,8 +1,8 @@
 -- The members of the classes of a file have no arguments.
-use Rattle.std.proofs.Common.{◌≡◌, ℕ, zero, suc, ◌-◌, ◌<◌, ◌≤◌, List, [], ◌∷◌, ◌++◌, map, length, refl, sym, ap, ◌∙◌, subst, inl, inr}
+use Rattle.std.proofs.Common.{◌≡◌, ℕ, zero, suc, ◌-◌, ◌<◌, ◌≤◌, List, [], ◌∷◌, ◌++◌, map, length, Some, slice_get, refl, sym, subst}
 use Rattle.std.specs.Prelude.{IsTrue, set, slice_index_or}
 use Rattle.std.specs.List.{AllByRecursion}
-use Rattle.std.proofs.lemmas.Bool.{cases_lt}
+use Rattle.std.proofs.lemmas.Option.{none-some}
 use Rattle.std.proofs.lemmas.List.Elements.{Contains-append_left}
 use Rattle.eq_base.specs.ClassLists.{members_of, with_member}
 use Rattle.eq_base.specs.Meeting.{in_symbol_class, same_head, in_class_of}
@@ -12,9 +12,8 @@ use Rattle.eq_base.specs.declared.head.Head.TheVariants as head
 use Rattle.eq_base.proofs.ClassMembers.{same_head_decides, listed_class}
 use Rattle.eq_base.proofs.Lists.{all_map, all_push, all_contained}
 use Rattle.term_lex.specs.declared.token.Token.{Token}
-use Rattle.symbol_table.specs.Table.{Table, IsDeclared, Declares, AddsClass}
+use Rattle.symbol_table.specs.Table.{Table, symbols_of, IsDeclared, Declares, AddsClass}
 use Rattle.symbol_table.specs.Reading.{read_head, read_classes}
-use Rattle.symbol_table.proofs.Places.{kept}
 use Rattle.written_terms.specs.Notation.{Notation}
 use Rattle.def_file.specs.AsRead.{ReadDefinitions}
 use Rattle.def_file.specs.Names.{Place, Symbol, Class, NewClass, Member, Variable, Term, Qualified, ClassOf, Operation, Known, nothing_known, places_of, MeansMember, Takes, TakesAll}
@@ -22,7 +21,13 @@ use Rattle.def_file.specs.Definitions.{Says}
 use Rattle.qualifiers.proofs.MappedEquations.{all_mapped, all_unmapped}
 use Rattle.ei_program.proofs.Meanings.{arity_in, listed_arity}
 
--- ---- one element written into a list
+-- ---- the elements of a list
+
+-- an element keeps its place where more stand behind it
+place_kept : {X : Type 0} (xs ys : List X) (i : ℕ) (x : X) → slice_get xs i ≡ Some x → slice_get (xs ++ ys) i ≡ Some x
+place_kept [] ys i x at = absurd (none-some x at)
+place_kept (y ∷ xs) ys zero x at = at
+place_kept (y ∷ xs) ys (suc i) x at = place_kept xs ys i x at
 
 -- what holds of each element, and of one that is written among them
 all_set : {X : Type 0} (P : X → Type 0) (xs : List X) (n : ℕ) (x : X) → AllByRecursion P xs → P x → AllByRecursion P (set xs n x)
@@ -45,7 +50,7 @@ Grows old new = (name : List ℕ) (number arity : ℕ) → IsDeclared old name n
 -- with one more symbol
 grows_symbol : (old new : Table) (name : List ℕ) (arity : _) (number : ℕ) → Declares old new name arity number → Grows old new
 grows_symbol old new name arity number d = subst (Grows old) (sym d.added)
-    (λ other place args is. record { listed = kept _ _ place _ is.listed; known = is.known })
+    (λ other place args is. record { listed = place_kept (symbols_of old) _ place _ is.listed; known = is.known })
 
 -- with one more class
 grows_class : (old new : Table) (name : List ℕ) → AddsClass old new name → Grows old new
