@@ -53,7 +53,8 @@ knowing table listed operations = record {
 
 -- the symbols are known, and nothing else
 abbrev pub only_symbols : Table → Known
-only_symbols table = record { table = names_of table; class_names = []; classes = []; variables = []; operations = [] }
+only_symbols table =
+    record { table = names_of table; class_names = []; classes = []; variables = []; operations = [] }
 
 -- the symbols and what is listed are known, and no equation classes
 abbrev pub no_operations : Table → Listed → Known

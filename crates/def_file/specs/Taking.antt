@@ -44,7 +44,8 @@ module _ (notation : Notation) (text : List ℕ) (known : Known) (table : Table)
 
   -- what a variable may stand for: the class of that name, or the patterns of these terms
   abbrev pub TakesChoice : Restriction → Choice → Type 0
-  TakesChoice (InClass name) (choice.InClass class) = NamesClass known.class_names (token_bytes text name) class
+  TakesChoice (InClass name) (choice.InClass class) =
+      NamesClass known.class_names (token_bytes text name) class
   TakesChoice (OneOf terms) (choice.OneOf patterns) = AreRelated IsSideTaken terms patterns.items
   TakesChoice written taken = ⊥
 

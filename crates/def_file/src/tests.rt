@@ -419,8 +419,8 @@ fn class_of(alloc: Global, text: &[u8], name: &[u8]) -> Option<(Head, bool, bool
     }
     Some((
         definitions.classes.member(5, 0),
-        definitions.class_name(0) == b"integer_numerals",
-        definitions.class_name(3) == b"strings",
+        definitions.class_name(0) == b"integer_numerals".as_slice(),
+        definitions.class_name(3) == b"strings".as_slice(),
         definitions.class_name(5) == name,
     ))
 }

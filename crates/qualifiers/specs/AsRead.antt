@@ -21,7 +21,8 @@ IsExpanding d answer = expansion.IsExpanding symbol d answer
 
 -- the equations have exactly the instances of the definitions
 abbrev pub HaveSameInstances : ReadDefinitions → List (PlainEquation ReadHead) → Type 0
-HaveSameInstances d equations = expansion.HaveSameInstances symbol value_of (in_read_class d.classes) d equations
+HaveSameInstances d equations =
+    expansion.HaveSameInstances symbol value_of (in_read_class d.classes) d equations
 
 -- ---- as a table reads them
 
@@ -32,6 +33,7 @@ abbrev pub plain_equations : Table → List Equation → List (PlainEquation Rea
 plain_equations table equations = map (plain_equation table) equations
 
 -- the answer with its equations as they are read
-abbrev pub expansion_read : {E : Type 0} → Table → Result RuleList E → Result (List (PlainEquation ReadHead)) E
+abbrev pub expansion_read : {E : Type 0} → Table → Result RuleList E
+    → Result (List (PlainEquation ReadHead)) E
 expansion_read table (Ok rules) = Ok (plain_equations table rules.equations)
 expansion_read table (Err e) = Err e

@@ -76,7 +76,8 @@ fn take_qualified(
     ensures taking { (syntax : SyntaxValue) (table : Table) (operations : List Operator)
         → IsTaking (notation_of syntax) text.now (knowing table listed.now operations)
         (Qualified (qualified_names before.now) name ∷ []) (knowing table listed.now operations) result }
-    ensures variable { IfOk result (λ x. slice_get listed.now.variables x ≡ Some (token_bytes text.now name)) }
+    ensures variable { IfOk result
+        (λ x. slice_get listed.now.variables x ≡ Some (token_bytes text.now name)) }
 {
     let Some(variable) = listed.variables.find(bytes_of(text, name)) else {
         return Err(refused(FaultKind::QualifiedUnknown, name));

@@ -162,7 +162,8 @@ fn take_class_item(
     symbols: &Symbols,
     listed: &mut Listed,
 ) -> Result<(), FileError>
-    requires placed { ArePlaced text.now (class_places (4 + length listed.old.classes) (class_item item.now)) }
+    requires placed { ArePlaced text.now
+        (class_places (4 + length listed.old.classes) (class_item item.now)) }
     requires named { length listed.old.class_names ≡ length listed.old.classes }
     requires counted { listed.old.members ≡ member_count listed.old.classes }
     ensures taking { (syntax : SyntaxValue) → IsTaking (notation_of syntax) text.now
