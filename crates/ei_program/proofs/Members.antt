@@ -137,10 +137,10 @@ members_constant notation text d says =
     let table = says.known.table in
     let all : HasConstants says.known = all_constants_taken notation text (places_of says.file) nothing_known says.known says.names tt in
     let read : HaveNoArguments table (read_classes table says.known.classes) =
-        all_mapped (λ (heads : List Head). AllByRecursion (IsConstant table) heads) (λ (heads : List ReadHead). AllByRecursion (λ (h : ReadHead). arity_in table h ≡ 0) heads)
-        (λ (heads : List Head). map (read_head table) heads)
-        (λ heads. all_mapped (IsConstant table) (λ (h : ReadHead). arity_in table h ≡ 0) (read_head table) (constant_read table) heads)
-        says.known.classes all in
+    all_mapped (λ (heads : List Head). AllByRecursion (IsConstant table) heads) (λ (heads : List ReadHead). AllByRecursion (λ (h : ReadHead). arity_in table h ≡ 0) heads)
+    (λ (heads : List Head). map (read_head table) heads)
+    (λ heads. all_mapped (IsConstant table) (λ (h : ReadHead). arity_in table h ≡ 0) (read_head table) (constant_read table) heads)
+    says.known.classes all in
     subst (λ (names : Table). HaveNoArguments names d.classes) (sym says.declared)
     (subst (HaveNoArguments table) (sym says.classes) read)
 
@@ -150,10 +150,10 @@ pub listed_constant : (names table : Table) (classes : List (List Head)) → Hav
 listed_constant names table classes all class h past is =
     let NoArguments : Head → Type 0 = λ g. arity_in names (read_head table g) ≡ 0 in
     let numbered : AllByRecursion (λ (heads : List Head). AllByRecursion NoArguments heads) classes =
-        all_unmapped (λ (heads : List Head). AllByRecursion NoArguments heads) (λ (heads : List ReadHead). AllByRecursion (λ (g : ReadHead). arity_in names g ≡ 0) heads)
-        (λ (heads : List Head). map (read_head table) heads)
-        (λ heads. all_unmapped NoArguments (λ (g : ReadHead). arity_in names g ≡ 0) (read_head table) (λ g none. none) heads)
-        classes all in
+    all_unmapped (λ (heads : List Head). AllByRecursion NoArguments heads) (λ (heads : List ReadHead). AllByRecursion (λ (g : ReadHead). arity_in names g ≡ 0) heads)
+    (λ (heads : List Head). map (read_head table) heads)
+    (λ heads. all_unmapped NoArguments (λ (g : ReadHead). arity_in names g ≡ 0) (read_head table) (λ g none. none) heads)
+    classes all in
     all_contained NoArguments (members_of classes class) h
     (all_or (λ (heads : List Head). AllByRecursion NoArguments heads) classes (class - 4) [] numbered tt)
     ((listed_class same_head same_head_decides in_symbol_class classes class h past).0 is)
