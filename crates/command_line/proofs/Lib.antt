@@ -1,0 +1,4 @@
+pub mod OptionNames
+pub mod OneReading
+pub mod OneTask
+pub mod Beginning
