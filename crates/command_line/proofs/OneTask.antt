@@ -73,7 +73,7 @@ pub one_mode : (ps : List Part) (m n : Mode) → IsMode ps m → IsMode ps n →
 one_mode ps Answer Answer p q = refl
 one_mode ps Answer Check p q = absurd (p (codes "check") (contains_first (codes "check") []) (flag_named ps (codes "check") q))
 one_mode ps Check Answer p q = absurd (q (codes "check") (contains_first (codes "check") []) (flag_named ps (codes "check") p))
-one_mode ps Check check p q = refl
+one_mode ps Check Check p q = refl
 
 pub one_operands : (mode : Mode) (operands : List (List ℕ)) (file other : List ℕ) (terms more : Option (List ℕ)) → AreOperandsOf mode operands file terms → AreOperandsOf mode operands other more → (file ≡ other) × (terms ≡ more)
 one_operands Answer operands file other (Some t) (Some u) p q = let e : file ∷ t ∷ [] ≡ other ∷ u ∷ [] = sym p ∙ q in (cc (e), cc (e))
@@ -100,4 +100,4 @@ one_asked words a b file name terms more p q =
     let task = one_task p.parts a b p.asked (subst (λ ps. IsTask ps b) (sym parts) q.asked) in
     let moved = subst (λ ps. AreOperandsOf b.mode (operands_in ps) name more) (sym parts) q.operands in
     let operands = one_operands a.mode (operands_in p.parts) file name terms more p.operands (subst (λ (t : Task). AreOperandsOf t.mode (operands_in p.parts) name more) (sym task) moved) in
-    (task, operands)
+    (task, operands.0, operands.1)
