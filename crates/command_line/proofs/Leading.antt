@@ -64,6 +64,11 @@ lead_dashes behind = record {
 pub lead_end : (ps : List Part) (words : List (List ℕ)) → LeadTo ps words [] → AreParts ps words
 lead_end ps words lead = subst (λ (all : List Part). AreParts all words) (append-nil ps) (lead.front [] (inl refl))
 
+-- no words are left
+pub none_left : {X : Type 0} (f : X → List ℕ) (words : List X) → length words ≡ 0 → map f words ≡ []
+none_left f [] none = refl
+none_left f (w ∷ ws) none = absurd (omega (arith, none))
+
 -- ---- what stands behind `--`
 
 -- the words before an index, that at it, and those behind it

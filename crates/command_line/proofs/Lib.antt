@@ -4,3 +4,4 @@ pub mod OneTask
 pub mod Beginning
 pub mod Giving
 pub mod Leading
+pub mod Asking

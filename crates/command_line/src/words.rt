@@ -51,7 +51,8 @@ fn given_by(words: &[String]) -> Option<Given<'_>>
     ensures none { IfNone result ((parts : List WrittenPart) → AreParts parts (map string_bytes words.now)
         → ¬ AreFew parts) }
 {
-    let mut given = Given::nothing();
+    let nothing = Given::nothing();
+    let mut given = nothing;
     let mut rest = words;
     while let Some((word, others)) = rest.split_first() {
         match given_more(given, word, others) {
@@ -136,12 +137,13 @@ fn asked_by(given: Given<'_>) -> Option<Asked<'_>>
         → ¬ AreOperandsOf task.mode (operands_in parts) file terms) }
 {
     let task = task_given(given)?;
-    match (given.operands, task.mode) {
-        (Operands::File(file), _) => Some(Asked { task, file, terms: None }),
-        (Operands::FileAndTerms(file, terms), Mode::Answer) => {
-            Some(Asked { task, file, terms: Some(terms) })
-        }
-        _ => None,
+    match given.operands {
+        Operands::File(file) => Some(Asked { task, file, terms: None }),
+        Operands::FileAndTerms(file, terms) => match task.mode {
+            Mode::Answer => Some(Asked { task, file, terms: Some(terms) }),
+            Mode::Check => None,
+        },
+        Operands::Nothing => None,
     }
 }
 

@@ -6,5 +6,5 @@ use Rattle.command_line.proofs.words.given_by.Given as goal
 abbrev pub invariant-loop-word : goal.invariant-loop-word
 invariant-loop-word l = (parts : List Part) × AreGiven parts l.given × LeadTo parts (map string_bytes l.fn.words) (map string_bytes l.rest)
 
-abbrev pub measure-loop-word : goal.measure-loop-word
-measure-loop-word l = length l.rest
+abbrev pub decreases-loop-word : goal.decreases-loop-word
+decreases-loop-word l = length l.rest
