@@ -26,12 +26,13 @@ operands_more parts others = flat_map-append operand_in parts others
 -- a new name stands once
 pub once_push : (names : List (List ℕ)) (name : List ℕ) → StandOnce names → (Contains names name → ⊥) → StandOnce (names ++ name ∷ [])
 once_push [] name once none = ((λ is. no_member name is), tt)
-once_push (n ∷ names) name once none =
-    ((λ is. elim (Contains-push_cases names name n is) [
-      | inl more ↦ once.0 more
-      | inr same ↦ none (subst (λ (m : List ℕ). Contains (n ∷ names) m) (sym same) (contains_first n names))
-    ]),
-    once_push names name once.1 (λ is. none (contains_behind n name names is)))
+once_push (n ∷ names) name once none = (
+  (λ is. elim (Contains-push_cases names name n is) [
+    | inl more ↦ once.0 more
+    | inr same ↦ none (subst (λ (m : List ℕ). Contains (n ∷ names) m) (sym same) (contains_first n names))
+  ]),
+  once_push names name once.1 (λ is. none (contains_behind n name names is)),
+)
 
 -- a name before another that is the same stands twice
 pub not_twice : (names more : List (List ℕ)) (name : List ℕ) → StandOnce (names ++ name ∷ more) → Contains names name → ⊥

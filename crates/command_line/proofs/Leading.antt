@@ -20,9 +20,9 @@ pub lead_on : (ps qs : List Part) (words rest last : List (List ℕ)) → LeadTo
 lead_on ps qs words rest last first more = record {
   front = λ others are. subst (λ (all : List Part). AreParts all words) (sym (append_assoc ps qs others)) (first.front (qs ++ others) (more.front others are));
   only = λ all are.
-    let one = first.only all are in
-    let two = more.only one.0 one.2 in
-    (two.0, one.1 ∙ ap (λ (os : List Part). ps ++ os) two.1 ∙ sym (append_assoc ps qs two.0), two.2);
+      let one = first.only all are in
+      let two = more.only one.0 one.2 in
+      (two.0, one.1 ∙ ap (λ (os : List Part). ps ++ os) two.1 ∙ sym (append_assoc ps qs two.0), two.2);
 }
 
 -- the part with which words begin

@@ -64,4 +64,4 @@ pub record AreFew (parts : List Part) : Type 0 where
 pub record LeadTo (parts : List Part) (words rest : List (List ℕ)) : Type 0 where
   pub front : (others : List Part) → AreParts others rest → AreParts (parts ++ others) words
   pub only : (all : List Part) → AreParts all words
-    → (others : List Part) × (all ≡ parts ++ others) × AreParts others rest
+      → (others : List Part) × (all ≡ parts ++ others) × AreParts others rest

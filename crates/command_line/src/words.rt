@@ -1,5 +1,5 @@
 // The words of the program.
-ghost use Rattle.std.specs.Prelude.{◌≡◌, ◌≤◌, ℕ, ◌^◌, List, [], ◌++◌, length, ◌∷◌, map, string_bytes, Option,  option_map, IfSome, IfNone};
+ghost use Rattle.std.specs.Prelude.{◌≡◌, ◌≤◌, ℕ, ◌^◌, List, [], ◌++◌, length, ◌∷◌, map, string_bytes, Option, option_map, IfSome, IfNone};
 ghost use Rattle.term_lex.specs.declared.syntax.Syntax.{Syntax as NamedSyntax};
 ghost use Rattle.term_lex.specs.declared.syntax.Syntax.TheVariants.{Standmath};
 ghost use Rattle.command_line.specs.declared.task.Task.{Task as AskedTask};
@@ -30,7 +30,7 @@ fn given_more<'a>(
 ) -> Option<(Given<'a>, &'a [String])>
     ensures more { IfSome result (λ next. (parts : List WrittenPart) → AreGiven parts given.entry
         → (more : List WrittenPart) × AreGiven (parts ++ more) next.0
-            × LeadTo more (word.now ∷ map string_bytes others.now) (map string_bytes next.1.now)) }
+        × LeadTo more (word.now ∷ map string_bytes others.now) (map string_bytes next.1.now)) }
     ensures fewer { IfSome result (λ next. length next.1.now ≤ length others.now) }
     ensures none { IfNone result ((parts more : List WrittenPart) → AreGiven parts given.entry
         → AreParts more (word.now ∷ map string_bytes others.now) → ¬ AreFew (parts ++ more)) }
@@ -56,7 +56,10 @@ fn given_by(words: &[String]) -> Option<Given<'_>>
     let mut rest = words;
     while let Some((word, others)) = rest.split_first() {
         match given_more(given, word, others) {
-            Some((more, behind)) => { given = more; rest = behind; }
+            Some((more, behind)) => {
+                given = more;
+                rest = behind;
+            }
             None => return None,
         }
     }
@@ -120,27 +123,44 @@ fn task_given(given: Given<'_>) -> Option<Task>
     ensures none { IfNone result ((parts : List WrittenPart) (task : AskedTask) → AreGiven parts given.entry
         → ¬ IsTask parts task) }
 {
-    let mode = if given.check { Mode::Check } else { Mode::Answer };
+    let mode = if given.check {
+        Mode::Check
+    } else {
+        Mode::Answer
+    };
     let syntax = syntax_given(given.syntax)?;
     let budget = number_given(given.replacements, 0, MOST_BUDGET)?;
     let most = number_given(given.most, 1, MOST_CELLS)?;
-    Some(Task { mode, syntax, budget, most })
+    Some(Task {
+        mode,
+        syntax,
+        budget,
+        most,
+    })
 }
 
 /// What the parts that give this ask for, if they ask for something.
 fn asked_by(given: Given<'_>) -> Option<Asked<'_>>
     ensures asked { IfSome result (λ asked. (parts : List WrittenPart) → AreGiven parts given.entry
         → IsTask parts asked.task × AreOperandsOf asked.task.mode (operands_in parts)
-            asked.file.now (option_map (λ word. word.now) asked.terms)) }
+        asked.file.now (option_map (λ word. word.now) asked.terms)) }
     ensures none { IfNone result ((parts : List WrittenPart) (task : AskedTask) (file : List ℕ)
         (terms : Option (List ℕ)) → AreGiven parts given.entry → IsTask parts task
         → ¬ AreOperandsOf task.mode (operands_in parts) file terms) }
 {
     let task = task_given(given)?;
     match given.operands {
-        Operands::File(file) => Some(Asked { task, file, terms: None }),
+        Operands::File(file) => Some(Asked {
+            task,
+            file,
+            terms: None,
+        }),
         Operands::FileAndTerms(file, terms) => match task.mode {
-            Mode::Answer => Some(Asked { task, file, terms: Some(terms) }),
+            Mode::Answer => Some(Asked {
+                task,
+                file,
+                terms: Some(terms),
+            }),
             Mode::Check => None,
         },
         Operands::Nothing => None,

@@ -13,7 +13,7 @@ pub returns-in_err-setting-clause-none : goal.returns-in_err-setting-clause-none
 returns-in_err-setting-clause-none c =
     let split = split_name c.args.option.now c.split_once.result c.in-Some.name c.in-Some.value c.split_once.ensures.cases c.in-Some.is in
     let never : (part : Part) (behind : List (List ℕ)) → BeginWith part ((codes "--" ++ c.args.option.now) ∷ map string_bytes c.args.others.now) behind → ⊥ = λ part behind begin.
-        none_named c.in-Some.name.now c.in-Some.value.now (map string_bytes c.args.others.now) split.1 c.in_err-setting.ensures.none part behind (subst (λ (text : List ℕ). BeginWith part ((codes "--" ++ text) ∷ map string_bytes c.args.others.now) behind) split.0 begin) in
+    none_named c.in-Some.name.now c.in-Some.value.now (map string_bytes c.args.others.now) split.1 c.in_err-setting.ensures.none part behind (subst (λ (text : List ℕ). BeginWith part ((codes "--" ++ text) ∷ map string_bytes c.args.others.now) behind) split.0 begin) in
     search rules
 
 pub returns-clause-part : goal.returns-clause-part

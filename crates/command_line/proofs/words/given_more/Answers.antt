@@ -9,7 +9,7 @@ returns-in_err-given-clause-none c =
     let others = map string_bytes c.args.others.now in
     let is : c.args.word.now ≡ codes "--" = search rules in
     let never : (parts more : List Part) → AreGiven parts c.args.given → AreParts more (c.args.word.now ∷ others) → AreFew (parts ++ more) → ⊥ = λ parts more are written few.
-        no_operands c.args.given others c.in_err-given.ensures.none parts more are (subst (λ (w : List ℕ). AreParts more (w ∷ others)) is written) few in
+    no_operands c.args.given others c.in_err-given.ensures.none parts more are (subst (λ (w : List ℕ). AreParts more (w ∷ others)) is written) few in
     search rules
 
 pub returns-then-eq-clause-more : goal.returns-then-eq-clause-more
@@ -27,14 +27,14 @@ returns-in_err-part-clause-none c =
     let others = map string_bytes c.args.others.now in
     let other : c.args.word.now ≡ codes "--" → ⊥ = λ is. search rules in
     let never : (parts more : List Part) → AreGiven parts c.args.given → AreParts more (c.args.word.now ∷ others) → AreFew (parts ++ more) → ⊥ = λ parts more are written few.
-        no_first_part c.args.word.now others other c.in_err-part.ensures.none more written in
+    no_first_part c.args.word.now others other c.in_err-part.ensures.none more written in
     search rules
 
 pub returns-in_err-given-2-clause-none : goal.returns-in_err-given-2-clause-none
 returns-in_err-given-2-clause-none c =
     let others = map string_bytes c.args.others.now in
     let never : (parts more : List Part) → AreGiven parts c.args.given → AreParts more (c.args.word.now ∷ others) → AreFew (parts ++ more) → ⊥ = λ parts more are written few.
-        no_more_parts c.args.given (c.args.word.now ∷ others) (part_of c.in_ok-part.part) (map string_bytes c.in_ok-part.behind.now) c.in_ok-part.ensures.part c.in_err-given-2.ensures.none parts more are written few in
+    no_more_parts c.args.given (c.args.word.now ∷ others) (part_of c.in_ok-part.part) (map string_bytes c.in_ok-part.behind.now) c.in_ok-part.ensures.part c.in_err-given-2.ensures.none parts more are written few in
     search rules
 
 pub returns-clause-more : goal.returns-clause-more
