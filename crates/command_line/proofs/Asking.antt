@@ -1,6 +1,6 @@
 -- What parts ask for, from what they give.
-use Rattle.std.proofs.Common.{◌≡◌, ◌⊎◌, ℕ, Bool, true, false, List, [], ◌∷◌, codes, Option, Some, None, inl, inr, refl, sym, ◌∙◌, subst}
-use Rattle.std.specs.Prelude.{Contains, ◌^◌, option_map, IfNone}
+use Rattle.std.proofs.Common.{◌≡◌, ℕ, Bool, true, false, List, [], ◌∷◌, codes, Option, Some, None, inl, inr, sym, ◌∙◌, subst}
+use Rattle.std.specs.Prelude.{Contains, ◌^◌, IfNone}
 use Rattle.term_lex.specs.declared.syntax.Syntax.{Syntax}
 use Rattle.term_lex.specs.declared.syntax.Syntax.TheVariants.{Standmath}
 use Rattle.command_line.specs.declared.part.Setting.TheVariants.{Syntax as SyntaxSetting, Replacements, Most}
@@ -8,8 +8,8 @@ use Rattle.command_line.specs.declared.given.Given.{Given}
 use Rattle.command_line.specs.declared.task.Mode.{Mode}
 use Rattle.command_line.specs.declared.task.Mode.TheVariants.{Answer, Check}
 use Rattle.command_line.specs.declared.task.Task.{Task}
-use Rattle.command_line.specs.Parts.{Part, setting, names_in, StandOnce, operands_in, AreParts}
-use Rattle.command_line.specs.Asked.{IsSyntax, IsNumber, IsSetTo, IsMode, mode_names, AreOperandsOf, IsTask, Asks, IsCommandLine}
+use Rattle.command_line.specs.Parts.{Part, names_in, StandOnce, operands_in, AreParts}
+use Rattle.command_line.specs.Asked.{IsSyntax, IsNumber, IsSetTo, IsMode, AreOperandsOf, IsTask, IsCommandLine}
 use Rattle.command_line.specs.Given.{value_of, words_of, IsFlagIn, IsValueIn, IsValueOr, AreGiven}
 use Rattle.command_line.proofs.OptionNames.{first_or_behind, no_member}
 use Rattle.command_line.proofs.OneTask.{setting_named, one_value, one_mode}

@@ -1,6 +1,6 @@
 -- A word `--name=value` begins one part at most, and none where no option has this name.
-use Rattle.std.proofs.Common.{◌≡◌, ◌⊎◌, ℕ, List, [], ◌∷◌, ◌++◌, codes, Option, Some, None, inl, inr, refl, sym, ◌∙◌, ap, subst, arith, length, get_or, ◌<◌, Bor}
-use Rattle.std.specs.Prelude.{Contains, MatchOption}
+use Rattle.std.proofs.Common.{◌≡◌, ℕ, List, ◌∷◌, ◌++◌, codes, Option, Some, None, inl, inr, refl, sym, ◌∙◌, ap, subst, arith, length, get_or, ◌<◌, Bor}
+use Rattle.std.specs.Prelude.{Contains}
 use Rattle.std.proofs.lemmas.Option.{MatchOption-at_some, MatchOption-at_none}
 use Rattle.std.proofs.lemmas.Str.Pattern.{IsSplitOnceResult, split_parts}
 use Rattle.command_line.specs.Parts.{Part, flag, setting, operand, setting_names, BeginWith}

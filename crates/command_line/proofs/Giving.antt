@@ -1,12 +1,11 @@
 -- What parts give, with one part more.
-use Rattle.std.proofs.Common.{◌≡◌, ◌⊎◌, ℕ, ◌+◌, ◌≤◌, Bool, true, false, List, [], ◌∷◌, ◌++◌, codes, map, length, length-append, append_assoc, Option, Some, None, inl, inr, refl, sym, ◌∙◌, ap, subst, arith, Bor}
-use Rattle.std.specs.Prelude.{Contains, flat_map, IfNone, is_some, option_map}
+use Rattle.std.proofs.Common.{◌≡◌, ℕ, Bool, true, false, List, [], ◌∷◌, ◌++◌, codes, length, length-append, Option, Some, None, inl, inr, refl, sym, ◌∙◌, ap, subst, arith, Bor}
+use Rattle.std.specs.Prelude.{Contains, IfNone, is_some, option_map}
 use Rattle.std.proofs.lemmas.List.Concat.{flat_map-append}
 use Rattle.std.proofs.lemmas.List.Elements.{Contains-append_left, Contains-append_right, Contains-append_cases, Contains-push, Contains-push_cases}
 use Rattle.command_line.specs.declared.part.Setting.{Setting}
 use Rattle.command_line.specs.declared.part.Setting.TheVariants.{Syntax, Replacements, Most}
 use Rattle.command_line.specs.declared.part.Part.{Part as PartRead}
-use Rattle.command_line.specs.declared.part.Part.TheVariants.{Check, Set}
 use Rattle.command_line.specs.declared.given.Given.{Given}
 use Rattle.command_line.specs.declared.given.Operands.{Operands}
 use Rattle.command_line.specs.Parts.{Part, flag, setting, operand, name_in, names_in, StandOnce, operand_in, operands_in}

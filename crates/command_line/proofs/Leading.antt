@@ -1,11 +1,11 @@
 -- Words lead to a rest by their first parts, and what stands behind `--` is operands.
-use Rattle.std.proofs.Common.{◌≡◌, ◌⊎◌, ℕ, suc, ◌<◌, ◌≤◌, List, [], ◌∷◌, ◌++◌, codes, map, take, drop, get_or, length, length-append, append_assoc, drop-cons, Option, Some, None, inl, inr, refl, sym, ◌∙◌, ap, subst, arith}
+use Rattle.std.proofs.Common.{◌≡◌, ℕ, suc, ◌<◌, ◌≤◌, List, [], ◌∷◌, ◌++◌, codes, map, take, drop, get_or, length, append_assoc, drop-cons, Option, Some, None, inl, inr, refl, sym, ◌∙◌, ap, subst, arith}
 use Rattle.std.proofs.lemmas.List.{append-nil, map-append, take-append-drop}
 use Rattle.command_line.specs.declared.given.Given.{Given}
 use Rattle.command_line.specs.declared.task.Mode.{Mode}
 use Rattle.command_line.specs.declared.task.Mode.TheVariants.{Answer, Check}
 use Rattle.command_line.specs.declared.task.Task.{Task}
-use Rattle.command_line.specs.Parts.{Part, operand, operands_in, BeginWith, AreOperands, AreParts}
+use Rattle.command_line.specs.Parts.{Part, operand, operands_in, BeginWith, AreParts}
 use Rattle.command_line.specs.Asked.{AreOperandsOf, IsTask, Asks}
 use Rattle.command_line.specs.Given.{AreGiven, AreFew, LeadTo}
 use Rattle.command_line.proofs.OneReading.{one_beginning, no_beginning, no_dashes, one_parts}

@@ -2,7 +2,7 @@
 use Rattle.std.proofs.Common.{◌≡◌, ◌⊎◌, ℕ, List, [], ◌∷◌, ◌++◌, codes, map, inl, inr, refl, sym, ◌∙◌, ap, subst, slice_get}
 use Rattle.std.specs.Prelude.{Contains}
 use Rattle.command_line.specs.Parts.{Part, flag, setting, operand, flag_names, setting_names, BeginsWithDash, BeginWith, AreOperands, AreParts}
-use Rattle.command_line.proofs.OptionNames.{HasNoSign, no_sign, one_split, sign, plain_flags, plain_settings, named_flags, named_settings, apart}
+use Rattle.command_line.proofs.OptionNames.{no_sign, one_split, sign, plain_flags, plain_settings, named_flags, named_settings, apart}
 
 -- ---- options and operands
 

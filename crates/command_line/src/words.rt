@@ -21,8 +21,8 @@ const MOST_BUDGET: u64 = 1_000_000_000_000;
 /// The most cells of a printed answer that words may allow: 2^32.
 const MOST_CELLS: u64 = 4_294_967_296;
 
-/// What is given with the first part of the words, and the words behind it, if that part can stand there. Behind
-/// `--` each word is a part, and no words are left.
+/// What is given with the first part of the words, and the words behind it, if that part can stand there.
+/// Behind `--` each word is a part, and no words are left.
 fn given_more<'a>(
     given: Given<'a>,
     word: &'a str,
@@ -119,7 +119,8 @@ fn number_given(word: Option<&str>, least: u64, most: u64) -> Option<u64>
 
 /// The task for which the parts that give this ask, if they ask for one.
 fn task_given(given: Given<'_>) -> Option<Task>
-    ensures task { IfSome result (λ task. (parts : List WrittenPart) → AreGiven parts given.entry → IsTask parts task) }
+    ensures task { IfSome result (λ task. (parts : List WrittenPart) → AreGiven parts given.entry
+        → IsTask parts task) }
     ensures none { IfNone result ((parts : List WrittenPart) (task : AskedTask) → AreGiven parts given.entry
         → ¬ IsTask parts task) }
 {

@@ -1,7 +1,6 @@
-use Rattle.std.proofs.Common.{◌≡◌, ◌++◌, ◌∷◌, List, ℕ, ap, ◌∙◌, sym, subst, codes, inl, rules}
+use Rattle.std.proofs.Common.{◌++◌, ◌∷◌, List, ℕ, ap, ◌∙◌, subst, codes, inl, rules}
 use Rattle.std.specs.Prelude.{map, string_bytes}
 use Rattle.command_line.specs.Parts.{BeginWith, Part}
-use Rattle.command_line.specs.Given.{setting_name}
 use Rattle.command_line.proofs.OptionNames.{setting_known}
 use Rattle.command_line.proofs.Beginning.{split_name, no_split, none_named}
 use Rattle.command_line.proofs.part.option_part.Goals as goal

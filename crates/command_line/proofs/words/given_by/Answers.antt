@@ -1,5 +1,4 @@
-use Rattle.std.proofs.Common.{◌≡◌, ◌∙◌, ap, sym, subst, List, ℕ, [], ◌∷◌, ◌++◌, map, string_bytes}
-use Rattle.command_line.specs.Parts.{Part}
+use Rattle.std.proofs.Common.{◌∙◌, ap, sym, subst, List, ℕ, ◌∷◌, ◌++◌, map, string_bytes}
 use Rattle.command_line.specs.Given.{LeadTo}
 use Rattle.command_line.proofs.Leading.{lead_on, none_left, lead_end}
 use Rattle.command_line.proofs.words.given_by.Goals as goal

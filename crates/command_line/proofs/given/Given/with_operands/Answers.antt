@@ -1,6 +1,4 @@
-use Rattle.std.proofs.Common.{rules, ◌≡◌, ◌∙◌, ap, List, ◌++◌, map, string_bytes}
-use Rattle.command_line.specs.Parts.{Part, operand}
-use Rattle.command_line.specs.Given.{AreGiven, AreFew}
+use Rattle.std.proofs.Common.{rules, ◌∙◌, ap, string_bytes}
 use Rattle.command_line.proofs.Leading.{third_operand}
 use Rattle.command_line.proofs.given.Given.with_operands.Goals as goal
 

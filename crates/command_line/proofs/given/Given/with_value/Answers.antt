@@ -1,5 +1,5 @@
 use Rattle.std.proofs.Common.{◌≡◌, ap, ◌∙◌, sym, subst}
-use Rattle.std.specs.Prelude.{List, ◌++◌, ◌∷◌, []}
+use Rattle.std.specs.Prelude.{◌++◌, ◌∷◌, []}
 use Rattle.command_line.specs.declared.given.Given.{Given}
 use Rattle.command_line.specs.Parts.{setting}
 use Rattle.command_line.specs.Given.{setting_name, value_of, AreGiven}
