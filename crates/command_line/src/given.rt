@@ -1,5 +1,5 @@
 // What the parts of a command line give: the values of options, and the operands.
-ghost use Rattle.std.specs.Prelude.{◌≡◌, ℕ, List, [], ◌∷◌, ◌++◌, codes, length, map, string_bytes, Contains, option_map, IfSome, IfNone};
+ghost use Rattle.std.specs.Prelude.{◌≡◌, List, [], ◌∷◌, ◌++◌, codes, length, map, string_bytes, Contains, option_map, IfSome, IfNone};
 ghost use Rattle.command_line.specs.Parts.{Part as WrittenPart, flag, setting, operand, names_in};
 ghost use Rattle.command_line.specs.Given.{setting_name, part_of, value_of, words_of, AreGiven, AreFew};
 

@@ -1,11 +1,11 @@
 // The words of the program.
-ghost use Rattle.std.specs.Prelude.{◌≡◌, ◌≤◌, ℕ, ◌^◌, List, [], ◌++◌, length, ◌∷◌, map, string_bytes, Option, option_map, IfSome, IfNone};
+ghost use Rattle.std.specs.Prelude.{◌≤◌, ℕ, List, ◌++◌, length, ◌∷◌, map, string_bytes, Option, option_map, IfSome, IfNone};
 ghost use Rattle.term_lex.specs.declared.syntax.Syntax.{Syntax as NamedSyntax};
 ghost use Rattle.term_lex.specs.declared.syntax.Syntax.TheVariants.{Standmath};
 ghost use Rattle.command_line.specs.declared.task.Task.{Task as AskedTask};
 ghost use Rattle.command_line.specs.Parts.{Part as WrittenPart, AreParts, operands_in};
 ghost use Rattle.command_line.specs.Asked.{IsSyntax, IsNumber, IsTask, AreOperandsOf, Asks, IsCommandLine};
-ghost use Rattle.command_line.specs.Given.{value_of, words_of, IsValueOr, AreGiven, AreFew, LeadTo};
+ghost use Rattle.command_line.specs.Given.{IsValueOr, AreGiven, AreFew, LeadTo};
 
 use crate::given::{Given, Operands};
 use crate::part::first_part;
