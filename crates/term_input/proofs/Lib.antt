@@ -1,0 +1,4 @@
+pub mod Gaps
+pub mod Inputs
+pub mod Limits
+pub mod Fronts

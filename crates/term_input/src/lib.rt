@@ -1,0 +1,3 @@
+//! What an input is read as: terms, one after another.
+#![tactic(auto)]
+
