@@ -1,12 +1,13 @@
 -- An input is read in one way; a reader that answers always gives each input a reading; and what is read of a front is read of the whole.
-use Rattle.std.proofs.Common.{◌≡◌, ℕ, zero, suc, ◌+◌, ◌<◌, ◌≤◌, List, [], ◌∷◌, ◌++◌, length, drop, take, arith, Result, Ok, Err, inl, inr, refl, sym, ◌∙◌, ap, subst, length-drop}
+use Rattle.std.proofs.Common.{◌≡◌, ◌⊎◌, ℕ, zero, suc, ◌+◌, ◌<◌, ◌≤◌, Bool, true, false, List, [], ◌∷◌, ◌++◌, length, drop, take, arith, Result, Ok, Err, inl, inr, refl, sym, ◌∙◌, ap, subst, length-drop}
+use Rattle.std.specs.Prelude.{IsTrue}
 use Rattle.std.proofs.lemmas.Bool.{cases_order}
 use Rattle.std.proofs.lemmas.List.{drop-append-le, length-take}
 use Rattle.term_lex.specs.declared.fault.Fault.{Fault}
 use Rattle.symbol_table.specs.Table.{IsFront}
 use Rattle.term_input.specs.Places.{IsNextByte, StandsNext}
 use Rattle.term_input.specs.Inputs.{End, whole, refused, long, window_bytes, fault_from, too_long, read_bytes, window, EndsAt, EndsBehind, IsNext, IsReadFrom, IsReadTo, IsRead}
-use Rattle.term_input.specs.Readers.{IsReader, IsTotal}
+use Rattle.term_input.specs.Readers.{IsReader, ReadsBy, EndedBy}
 use Rattle.term_input.proofs.Gaps.{some_gap, one_byte, next_front}
 
 -- two answers with a thing and a number that are the same
@@ -31,6 +32,19 @@ front_take (suc n) (x ∷ xs) ys = let (more, e) = front_take n xs ys in (more, 
 
 take_fits : {A : Type 0} (n : ℕ) (xs : List A) → (length (take n xs) ≤ n) × (length (take n xs) ≤ length xs)
 take_fits n xs = (omega (arith, length-take n xs), omega (arith, length-take n xs))
+
+-- all bytes are read in some way, and whether they ended too early is decided
+pub record IsTotal {A : Type 0} (ReadsOne : List ℕ → Result (A × ℕ) Fault → Type 0) (BytesEnded : List ℕ → Fault → Type 0) : Type 0 where
+  pub some : (window : List ℕ) → (r : Result (A × ℕ) Fault) × ReadsOne window r
+  pub decided : (window : List ℕ) (fault : Fault) → BytesEnded window fault ⊎ (¬ BytesEnded window fault)
+
+decided_by : (b : Bool) → IsTrue b ⊎ (¬ IsTrue b)
+decided_by true = inl refl
+decided_by false = inr (λ no. cc (no))
+
+-- functions answer always
+pub total_by : {A : Type 0} (read_one : List ℕ → Result (A × ℕ) Fault) (ended : List ℕ → Fault → Bool) → IsTotal (ReadsBy read_one) (EndedBy ended)
+total_by read_one ended = record { some = λ window. (read_one window, refl); decided = λ window fault. decided_by (ended window fault) }
 
 module _ {A : Type 0} (ReadsOne : List ℕ → Result (A × ℕ) Fault → Type 0) (BytesEnded : List ℕ → Fault → Type 0) (reader : IsReader ReadsOne) (limit : ℕ) where
   module _ (input : List ℕ) where

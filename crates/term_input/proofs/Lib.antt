@@ -2,3 +2,4 @@ pub mod Gaps
 pub mod Inputs
 pub mod Limits
 pub mod Fronts
+pub mod TermReaders

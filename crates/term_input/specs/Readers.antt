@@ -1,5 +1,5 @@
 -- What is asked of a reader of one thing, for each input to be read in one way.
-use Rattle.std.specs.Prelude.{◌≡◌, ◌⊎◌, ℕ, ◌<◌, ◌≤◌, List, ◌++◌, length, Result, Ok}
+use Rattle.std.specs.Prelude.{◌≡◌, ℕ, ◌<◌, ◌≤◌, Bool, IsTrue, List, ◌++◌, length, Result, Ok}
 use Rattle.term_lex.specs.declared.fault.Fault.{Fault}
 
 module _ {A : Type 0} (ReadsOne : List ℕ → Result (A × ℕ) Fault → Type 0) where
@@ -11,7 +11,10 @@ module _ {A : Type 0} (ReadsOne : List ℕ → Result (A × ℕ) Fault → Type 
     pub front : (window more : List ℕ) (x : A) (len : ℕ) → ReadsOne window (Ok (x, len))
         → ReadsOne (window ++ more) (Ok (x, len))
 
-  -- all bytes are read in some way, and whether they ended too early is decided
-  pub record IsTotal (BytesEnded : List ℕ → Fault → Type 0) : Type 0 where
-    pub some : (window : List ℕ) → (r : Result (A × ℕ) Fault) × ReadsOne window r
-    pub decided : (window : List ℕ) (fault : Fault) → BytesEnded window fault ⊎ (¬ BytesEnded window fault)
+-- the bytes are read as a function says
+abbrev pub ReadsBy : {A : Type 0} → (List ℕ → Result (A × ℕ) Fault) → List ℕ → Result (A × ℕ) Fault → Type 0
+ReadsBy read_one window r = read_one window ≡ r
+
+-- the bytes ended too early, as a function says
+abbrev pub EndedBy : (List ℕ → Fault → Bool) → List ℕ → Fault → Type 0
+EndedBy ended window fault = IsTrue (ended window fault)
