@@ -1,5 +1,5 @@
 -- No more is looked at than the bytes up to the limit, and whether there is one more.
-use Rattle.std.proofs.Common.{◌≡◌, ℕ, zero, suc, ◌+◌, ◌<◌, ◌≤◌, List, [], ◌∷◌, ◌++◌, length, drop, take, arith, Result, Ok, Err, inl, inr, refl, sym, ap, subst, length-drop}
+use Rattle.std.proofs.Common.{◌≡◌, ℕ, zero, suc, ◌+◌, ◌<◌, ◌≤◌, List, [], ◌∷◌, length, drop, take, arith, Result, Ok, Err, inl, inr, refl, sym, ap, subst, length-drop}
 use Rattle.std.proofs.lemmas.List.{length-take}
 use Rattle.term_lex.specs.declared.fault.Fault.{Fault}
 use Rattle.term_input.specs.Places.{NothingLeft, StandsNext}
