@@ -25,7 +25,7 @@ cons_same x y xs ys e f = cc (e, f)
 
 -- ---- fronts
 
-front_take : {A : Type 0} (n : ℕ) (xs ys : List A) → IsFront (take n xs) (take n (xs ++ ys))
+pub front_take : {A : Type 0} (n : ℕ) (xs ys : List A) → IsFront (take n xs) (take n (xs ++ ys))
 front_take zero xs ys = ([], refl)
 front_take (suc n) [] ys = (take (suc n) ys, refl)
 front_take (suc n) (x ∷ xs) ys = let (more, e) = front_take n xs ys in (more, ap (λ zs. x ∷ zs) e)

@@ -1,5 +1,6 @@
 pub mod Gaps
 pub mod Inputs
 pub mod Limits
+pub mod Windows
 pub mod Fronts
 pub mod TermReaders

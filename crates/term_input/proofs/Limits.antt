@@ -52,7 +52,8 @@ module _ {A : Type 0} (ReadsOne : List ℕ → Result (A × ℕ) Fault → Type 
   behind_in end (inl p) = inl (omega (arith, p.0, length-take (suc limit) input), p.1)
   behind_in end (inr p) = inr (omega (arith, p.0, length-take (suc limit) input), p.1)
 
-  next_in : (at : ℕ) (r : Result (A × ℕ) End) → IsNext ReadsOne BytesEnded limit taken at r → IsNext ReadsOne BytesEnded limit input at r
+  -- what comes next in them comes next in the input
+  pub next_in : (at : ℕ) (r : Result (A × ℕ) End) → IsNext ReadsOne BytesEnded limit taken at r → IsNext ReadsOne BytesEnded limit input at r
   next_in at (Ok x) (from, len, stands, reads, e) = (from, len, subst (λ bs. StandsNext bs at from) same_bytes stands, subst (λ w. ReadsOne w (Ok (x.0, len))) (same_windows from) reads, e)
   next_in at (Err end) (inl (nothing, p)) = inl (subst (λ bs. NothingLeft bs at) same_bytes nothing, behind_in end p)
   next_in at (Err end) (inr (from, fault, stands, reads, p)) = inr (from, fault, subst (λ bs. StandsNext bs at from) same_bytes stands, subst (λ w. ReadsOne w (Err fault)) (same_windows from) reads, end_in from fault end stands.1 p)

@@ -26,7 +26,8 @@ abbrev pub too_long : ℕ → Fault
 too_long from = record { kind = TermLong; byte = from }
 
 -- `ReadsOne window r`: reading one thing at the beginning of the bytes comes to the thing and its length, or
--- to its first fault. `BytesEnded window fault`: the thing has the fault because the bytes ended before it did.
+-- to its first fault. `BytesEnded window fault`: the thing has the fault because the bytes ended before it
+-- did.
 module _ {A : Type 0} (ReadsOne : List ℕ → Result (A × ℕ) Fault → Type 0)
     (BytesEnded : List ℕ → Fault → Type 0) (limit : ℕ) (input : List ℕ) where
   -- the bytes of the input that are read

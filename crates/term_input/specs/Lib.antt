@@ -4,3 +4,4 @@ pub mod Inputs
 pub mod Readers
 pub mod TermReading
 pub mod Printing
+pub mod Streams

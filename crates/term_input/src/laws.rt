@@ -11,8 +11,8 @@ ghost use Rattle.term_input.specs.Inputs.{End, IsRead};
 ghost use Rattle.term_input.specs.Readers.{IsReader, ReadsBy, EndedBy};
 ghost use Rattle.term_input.specs.TermReading.{ReadsOne, IsReadAs, AreFirst};
 
-/// Each input is read in one way by a reader of one thing. What is read of a front of it is a front of what is
-/// read of the whole, and what is read of one byte more than the limit is read of the whole.
+/// Each input is read in one way by a reader of one thing. What is read of a front of it is a front of what
+/// is read of the whole, and what is read of one byte more than the limit is read of the whole.
 pub fn inputs_are_read<A>()
     ensures some { (read_one : List ℕ → Result (A × ℕ) Fault) (ended : List ℕ → Fault → Bool)
         → IsReader (ReadsBy read_one) → (limit : ℕ) (input : List ℕ)
@@ -43,9 +43,9 @@ pub fn terms_are_read()
     ensures { (syntax : Syntax) (names : Table) → HasDistinctNames names → IsReader (ReadsOne syntax names) }
 {}
 
-/// An input is read as terms in one way at most. Its first terms are a front of all; what is read of a front of
-/// it is a front of what is read of the whole; and what is read of one byte more than the limit is read of the
-/// whole.
+/// An input is read as terms in one way at most. Its first terms are a front of all; what is read of a front
+/// of it is a front of what is read of the whole; and what is read of one byte more than the limit is read of
+/// the whole.
 pub fn inputs_hold_terms()
     ensures one { (syntax : Syntax) (names : Table) → HasDistinctNames names → (limit : ℕ) (input : List ℕ)
         (xs ys : List (Tree ReadHead)) (e f : End) → IsReadAs syntax names limit input xs e
