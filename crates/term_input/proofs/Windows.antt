@@ -3,7 +3,7 @@ use Rattle.std.proofs.Common.{◌≡◌, ℕ, suc, ◌+◌, ◌<◌, ◌≤◌, 
 use Rattle.std.proofs.lemmas.Bool.{cases_order}
 use Rattle.std.proofs.lemmas.List.{drop-append-le, take-append-le, length-take}
 use Rattle.term_lex.specs.declared.fault.Fault.{Fault}
-use Rattle.term_input.specs.Places.{IsNextByte, StandsNext}
+use Rattle.term_input.specs.Places.{StandsNext}
 use Rattle.term_input.specs.Inputs.{End, window_bytes, read_bytes, window, IsCut, EndsAt, IsNext, IsReadFrom, IsReadTo}
 use Rattle.term_input.specs.Readers.{IsReader}
 use Rattle.term_input.proofs.Gaps.{one_byte, next_front}
