@@ -4,3 +4,4 @@ pub mod Limits
 pub mod Windows
 pub mod Fronts
 pub mod TermReaders
+pub mod Streams

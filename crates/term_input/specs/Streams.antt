@@ -1,5 +1,5 @@
 -- The bytes that were taken of an input, and not given up.
-use Rattle.std.specs.Prelude.{◌≡◌, ℕ, ◌+◌, ◌<◌, ◌≤◌, List, [], ◌++◌, length}
+use Rattle.std.specs.Prelude.{◌≡◌, ℕ, ◌+◌, ◌<◌, ◌≤◌, List, [], ◌++◌, length, drop}
 use Rattle.std.specs.declared.option.Option.{Option}
 use Rattle.std.specs.Io.KnownBytes.{Consumes, IsAtEnd}
 use Rattle.eq_ports.specs.Causes.{Rose}
@@ -37,7 +37,7 @@ pub record Takes (before left : Option (List ℕ)) (old new : Held) : Type 0 whe
   pub within : taken_count new ≤ new.limit + 1
   pub some : MayTake old → new.state ≡ Open → 0 < length taken
   pub at_end : MayTake old → new.state ≡ AtEnd → IsAtEnd left
-  pub unchanged : ¬ MayTake old → new ≡ old
+  pub unchanged : ¬ MayTake old → (new ≡ old) × (left ≡ before)
 
 -- a read failed
 abbrev pub HasFailed : Held → Held → Type 0
@@ -48,3 +48,11 @@ pub record IsTakingCount (before now : ℕ) (old new : Held) : Type 0 where
   pub later : before ≤ now
   pub failed : HasFailed old new → Rose before now
   pub steady : ¬ HasFailed old new → now ≡ before
+
+-- these bytes were taken of the input so far, and those from the place on are held
+pub record IsTaken (before left : Option (List ℕ)) (taken : List ℕ) (held : Held) : Type 0 where
+  pub consumed : Consumes before left taken
+  pub place : held.place ≤ length taken
+  pub bytes : held.bytes ≡ drop held.place taken
+  pub within : length taken ≤ held.limit + 1
+  pub at_end : held.state ≡ AtEnd → IsAtEnd left

@@ -20,7 +20,7 @@ returns-then-not-may_take-clause-takes g c =
       within = subst (λ (held : Held). taken_count held ≤ held.limit + 1) c.self.view_is fits;
       some = λ may _. absurd (no may);
       at_end = λ may _. absurd (no may);
-      unchanged = λ _. refl;
+      unchanged = λ _. (refl, refl);
     }
   where
     no : MayTake c.args.self.now → ⊥
