@@ -1,5 +1,6 @@
 // The laws of reading an input, each the contract of a function that does nothing.
-ghost use Rattle.std.specs.Prelude.{◌≡◌, ℕ, suc, ◌≤◌, Bool, List, ◌++◌, length, take, Result};
+ghost use Rattle.std.specs.Prelude.{◌≡◌, ℕ, suc, ◌-◌, ◌≤◌, Bool, List, [], ◌++◌, length, take, drop, Result};
+ghost use Rattle.std.specs.declared.option.Option.{Option};
 ghost use Rattle.eq_base.specs.Tree.{Tree};
 ghost use Rattle.eq_base.specs.ReadHead.{ReadHead};
 ghost use Rattle.term_lex.specs.declared.fault.Fault.{Fault};
@@ -9,6 +10,7 @@ ghost use Rattle.written_terms.specs.Reading.{ReadsTerm};
 ghost use Rattle.def_file.specs.Notations.{notation_of};
 ghost use Rattle.term_input.specs.Inputs.{End, IsRead};
 ghost use Rattle.term_input.specs.Readers.{IsReader, ReadsBy, EndedBy};
+ghost use Rattle.term_input.specs.Streams.{Held, nothing_held, taken_count, Takes, IsTaken};
 ghost use Rattle.term_input.specs.TermReading.{ReadsOne, IsReadAs, AreFirst};
 
 /// Each input is read in one way by a reader of one thing. What is read of a front of it is a front of what
@@ -60,4 +62,16 @@ pub fn inputs_hold_terms()
     ensures taken { (syntax : Syntax) (names : Table) (limit : ℕ) (input : List ℕ) (xs : List (Tree ReadHead))
         (end : End) → IsReadAs syntax names limit (take (suc limit) input) xs end
         → IsReadAs syntax names limit input xs end }
+{}
+
+/// What a stream holds is what was taken and not given up.
+pub fn streams_hold_the_rest()
+    ensures begun { (left : Option (List ℕ)) (limit : ℕ) → IsTaken left left [] (nothing_held limit) }
+    ensures more { (before mid left : Option (List ℕ)) (taken : List ℕ) (old new : Held)
+        → IsTaken before mid taken old → Takes mid left old new
+        → (more : List ℕ) × IsTaken before left (taken ++ more) new }
+    ensures given_up { (before left : Option (List ℕ)) (taken : List ℕ) (held : Held) (place : ℕ)
+        → IsTaken before left taken held → held.place ≤ place → place ≤ taken_count held
+        → IsTaken before left taken
+        (record held { bytes = drop (place - held.place) held.bytes; place = place }) }
 {}

@@ -9,3 +9,6 @@ mod stream;
 pub use notation::{read_term, write_term};
 pub use source_state::SourceState;
 pub use stream::Stream;
+
+#[cfg(test)]
+mod tests;
