@@ -1,5 +1,5 @@
 // The bytes of an input, taken a piece at a time, and given up behind each thing that was read.
-ghost use Rattle.std.specs.Prelude.{◌≡◌, ◌≤◌, ◌<◌, ◌+◌, ◌-◌, ◌^◌, ◌↔◌, length, drop, vec_len, true};
+ghost use Rattle.std.specs.Prelude.{◌≡◌, ◌≤◌, ◌<◌, ◌+◌, ◌-◌, ◌^◌, ◌↔◌, length, take, drop, vec_len, true};
 ghost use Rattle.std.specs.Prelude.{IfOk, OnOk, OnErr};
 ghost use Rattle.std.specs.Io.KnownBytes.{ReadConsumes};
 ghost use Rattle.eq_ports.specs.Causes.{HasCause};
@@ -97,6 +97,15 @@ impl Stream {
         ensures { result.now ≡ self.now.bytes }
     {
         &self.bytes[self.start..]
+    }
+
+    /// Those of the bytes that are held that are not behind the limit.
+    pub fn readable(&self) -> &[u8]
+        ensures { result.now ≡ take (self.now.limit - self.now.place) self.now.bytes }
+    {
+        let bytes = self.bytes();
+        let room = self.limit.saturating_sub(self.place) as usize;
+        &bytes[..bytes.len().min(room)]
     }
 
     /// The place in the input of the first byte that is held.

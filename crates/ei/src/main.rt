@@ -1,30 +1,12 @@
-//! `ei`, the equation interpreter: it reads equations from a file and terms from its input, and prints their normal forms.
+//! The program `ei`: the equation interpreter over the files, the input, the output and the errors of its process.
 #![tactic(auto)]
 
-mod answer;
-mod definitions;
-mod input;
-mod loading;
-mod notation;
-mod outcome;
-mod positions;
-mod restrictions;
-mod run;
-mod status;
-mod stop;
-mod taking;
-#[cfg(test)]
-mod tests;
-mod top_call;
-mod words;
-
+use ei_program::{Status, ei};
 use eq_ports::{Sink, StdFiles, StdSink, StdSource, write_whole};
-use status::Status;
 use std::env;
 use std::io::{self, ErrorKind, Lock};
 use std::process::ExitCode;
 use std::rt::Env;
-use top_call::ei;
 
 /// The words after the program's name.
 fn own_words<R: Env + Alloc>(rt: &R) -> io::Result<Vec<String<R::A>, R::A>> {

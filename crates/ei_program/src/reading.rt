@@ -1,0 +1,152 @@
+// What comes next in an input: a term, or the end.
+use crate::dots::Dots;
+use crate::gap::skipped;
+use eq_base::{Flat, NoMemory};
+use eq_ports::Source;
+use std::alloc::Global;
+use symbol_table::Symbols;
+use term_input::{Stream, read_term};
+use term_lex::{Fault, FaultKind, Syntax};
+use written_terms::ReadError;
+
+/// The most bytes of a term: 2^24.
+const WINDOW_BYTES: usize = 16_777_216;
+
+/// How the reading of an input ends.
+#[derive(Clone, Copy, Debug, PartialEq, Eq)]
+pub enum End {
+    /// Nothing is left.
+    Whole,
+    /// A term is refused.
+    Refused(Fault),
+    /// There are more bytes than the limit.
+    Long,
+}
+
+/// What comes next in an input.
+#[derive(Drop)]
+pub enum Next {
+    /// A term.
+    Term(Flat),
+    /// The end.
+    End(End),
+}
+
+/// Gives up blanks and comments, and says whether something else stands behind them; takes what is needed for it.
+fn skip_gap<I: Source>(stream: &mut Stream, input: &mut I) -> Result<bool, NoMemory> {
+    let mut in_comment = false;
+    loop {
+        let readable = stream.readable();
+        let len = skipped(readable, &mut in_comment);
+        let stands = len < readable.len();
+        let place = stream.place() + len as u64;
+        stream.drop_to(place);
+        if stands || !stream.may_take() {
+            return Ok(stands);
+        }
+        stream.take_more(input)?;
+    }
+}
+
+/// The bytes in which a term is read that begins with the first byte that is held.
+fn window(stream: &Stream) -> &[u8] {
+    let readable = stream.readable();
+    &readable[..readable.len().min(WINDOW_BYTES)]
+}
+
+/// Whether more bytes can change how a term is read that begins with the first byte that is held.
+fn may_change(stream: &Stream) -> bool {
+    stream.may_take() && stream.bytes().len() <= WINDOW_BYTES
+}
+
+/// Whether the bytes ended before the term did that has this fault.
+fn bytes_ended(window: &[u8], fault: Fault) -> bool {
+    match fault.kind {
+        FaultKind::Unended => true,
+        FaultKind::OpenString => !window[fault.byte..].contains(&b'\n'),
+        _ => false,
+    }
+}
+
+/// The end where nothing is left of the bytes up to the limit.
+fn end_behind(stream: &Stream) -> End {
+    if stream.bytes().is_empty() {
+        End::Whole
+    } else {
+        End::Long
+    }
+}
+
+/// The end at a term with a fault that begins with the first byte that is held.
+fn end_at(stream: &Stream, fault: Fault) -> End {
+    let window = window(stream);
+    let from = stream.place() as usize;
+    if !bytes_ended(window, fault) || window.len() == stream.bytes().len() {
+        return End::Refused(Fault {
+            kind: fault.kind,
+            byte: from + fault.byte,
+        });
+    }
+    if window.len() < WINDOW_BYTES {
+        return End::Long;
+    }
+    End::Refused(Fault {
+        kind: FaultKind::TermLong,
+        byte: from,
+    })
+}
+
+/// Takes more, until a dot that can end the term was taken or no more bytes can change how it is read.
+fn take_on<I: Source>(stream: &mut Stream, input: &mut I, dots: &mut Dots) -> Result<(), NoMemory> {
+    loop {
+        stream.take_more(input)?;
+        if dots.reach(stream.bytes()) || !may_change(stream) {
+            return Ok(());
+        }
+    }
+}
+
+/// The term that begins with the first byte that is held, or the end there. What is taken is read three times at most:
+/// a piece of it, up to the first dot that can end the term, and the whole window.
+fn next_thing<I: Source>(
+    alloc: Global,
+    syntax: Syntax,
+    symbols: &mut Symbols,
+    stream: &mut Stream,
+    input: &mut I,
+) -> Result<Next, NoMemory> {
+    let mut dots = Dots::new();
+    loop {
+        match read_term(alloc, syntax, symbols, window(stream), 0) {
+            Ok((term, len)) => {
+                let place = stream.place() + len as u64;
+                stream.drop_to(place);
+                return Ok(Next::Term(term));
+            }
+            Err(ReadError::NoMemory) => return Err(NoMemory),
+            Err(ReadError::Refused(fault)) => {
+                if !may_change(stream) {
+                    return Ok(Next::End(end_at(stream, fault)));
+                }
+            }
+        }
+        dots.reach(stream.bytes());
+        take_on(stream, input, &mut dots)?;
+    }
+}
+
+/// What comes next in an input: the next term, whose bytes are given up, or the end. As many bytes are taken as are
+/// needed for it, and at most a piece more.
+pub fn next_term<I: Source>(
+    alloc: Global,
+    syntax: Syntax,
+    symbols: &mut Symbols,
+    stream: &mut Stream,
+    input: &mut I,
+) -> Result<Next, NoMemory> {
+    if skip_gap(stream, input)? {
+        next_thing(alloc, syntax, symbols, stream, input)
+    } else {
+        Ok(Next::End(end_behind(stream)))
+    }
+}
