@@ -1,5 +1,5 @@
 -- The mode that answers the terms of a text by a line each.
-use Rattle.std.specs.Prelude.{◌≡◌, ◌⊎◌, ℕ, List, ◌++◌, Option, Some, None}
+use Rattle.std.specs.Prelude.{◌≡◌, ◌⊎◌, ℕ, List, [], ◌++◌, Option, Some, None}
 use Rattle.eq_base.specs.Tree.{Tree}
 use Rattle.eq_base.specs.ReadHead.{ReadHead}
 use Rattle.symbol_table.specs.Table.{IsFront}
@@ -66,3 +66,9 @@ TextLeft settings d text left (Stopped ReadFailed) written = IsCutShort settings
 TextLeft settings d text left outcome written =
     (done : Done) × AnswersText settings d None text done × (done.told ≡ told_of outcome)
     × IsLeft text done.rest left × (written ≡ bytes_of done.lines)
+
+-- the same for the terms of a file that is there; where it is not, or was not read, nothing is written
+abbrev pub FileLeft : Settings → Definitions → (found left : Option (List ℕ)) → Outcome → List ℕ → Type 0
+FileLeft settings d (Some text) left outcome written =
+    TextLeft settings d text left outcome written ⊎ ((outcome ≡ Stopped ReadFailed) × (written ≡ []))
+FileLeft settings d None left outcome written = (outcome ≡ Stopped ReadFailed) × (written ≡ [])

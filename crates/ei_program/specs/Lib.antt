@@ -13,3 +13,4 @@ pub mod Telling
 pub mod Taking
 pub mod Loading
 pub mod Reading
+pub mod Stepping

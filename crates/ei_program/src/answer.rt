@@ -1,4 +1,18 @@
 // The answering of the terms of an input.
+ghost use Rattle.std.specs.Prelude.{◌≡◌, ◌≢◌, ◌≤◌, ◌^◌, ℕ, List, [], Option, Some, IfOk, OnOk, OnErr, true};
+ghost use Rattle.std.specs.Io.KnownBytes.{Appends};
+ghost use Rattle.eq_ports.specs.Causes.{Rose, HasCause};
+ghost use Rattle.eq_ports.specs.Moves.{AppendsFront};
+ghost use Rattle.term_input.specs.declared.source_state.SourceState.TheVariants as states;
+ghost use Rattle.ei_program.specs.Definitions.{definitions_of};
+ghost use Rattle.ei_program.specs.Loading.{IsReady};
+ghost use Rattle.ei_program.specs.Lines.{ended};
+ghost use Rattle.ei_program.specs.Outcomes.{CanBeTold};
+ghost use Rattle.ei_program.specs.Reading.{Goes, IsCounted};
+ghost use Rattle.ei_program.specs.Stepping.{IsStepOf, DoesStep, BreaksOff, IsOutcomeAt};
+ghost use Rattle.ei_program.specs.Answering.{TextLeft, FileLeft};
+ghost use Rattle.ei_program.specs.Run.{LeavesOn};
+
 use crate::line::line_of;
 use crate::outcome::Outcome;
 use crate::reading::{End, Next, next_term};
@@ -21,7 +35,13 @@ enum Step {
 }
 
 /// Writes a line.
-fn write_line<O: Sink>(line: &[u8], output: &mut O) -> Result<Step, Stop> {
+fn write_line<O: Sink>(line: &[u8], output: &mut O) -> Result<Step, Stop>
+    ensures step { IfOk result (IsStepOf line.now) }
+    ensures stop { OnErr result (result ≡ Result.Err Stop.WriteFailed) }
+    ensures whole { OnOk result (Appends (O.taken output.old) (O.taken output.new) line.now) }
+    ensures front { AppendsFront (O.taken output.old) (O.taken output.new) line.now }
+    ensures cause { HasCause (O.faults output.old) (O.faults output.new) result }
+{
     if write_whole(output, line).is_err() {
         return Err(Stop::WriteFailed);
     }
@@ -40,7 +60,25 @@ fn answer_next<I: Source, O: Sink>(
     stream: &mut Stream,
     input: &mut I,
     output: &mut O,
-) -> Result<Step, Stop> {
+) -> Result<Step, Stop>
+    requires { IsReady ready.old }
+    ensures ready { OnOk result (ready.new ≡ ready.old) }
+    ensures step { IfOk result (λ step. Goes (I.left input.old) (I.left input.new) stream.old stream.new
+        (DoesStep settings.now (definitions_of ready.old) stream.old stream.new (I.left input.new)
+        (O.taken output.old) (O.taken output.new) step)) }
+    ensures no_memory { result ≡ Result.Err Stop.NoMemory
+        → Appends (O.taken output.old) (O.taken output.new) [] }
+    ensures broken_off { result ≡ Result.Err Stop.WriteFailed
+        → Goes (I.left input.old) (I.left input.new) stream.old stream.new
+        (BreaksOff settings.now (definitions_of ready.old) stream.old stream.new (I.left input.new)
+        (O.taken output.old) (O.taken output.new)) }
+    ensures no_read { result ≢ Result.Err Stop.ReadFailed }
+    ensures count { IsCounted (I.faults input.old) (I.faults input.new) stream.old stream.new }
+    ensures through { I.through input.new ≡ I.through input.old }
+    ensures output_later { O.faults output.old ≤ O.faults output.new }
+    ensures write { result ≡ Result.Err Stop.WriteFailed → Rose (O.faults output.old) (O.faults output.new) }
+    ensures output_steady { result ≢ Result.Err Stop.WriteFailed → O.faults output.new ≡ O.faults output.old }
+{
     let mark = ready.symbols.mark();
     let Ok(next) = next_term(alloc, settings.syntax, &mut ready.symbols, stream, input) else {
         return Err(Stop::NoMemory);
@@ -58,7 +96,9 @@ fn answer_next<I: Source, O: Sink>(
 }
 
 /// The outcome of an input that ends so.
-fn outcome_at(end: End, any_question: bool, state: SourceState) -> Outcome {
+fn outcome_at(end: End, any_question: bool, state: SourceState) -> Outcome
+    ensures { IsOutcomeAt end any_question state result }
+{
     match (state, end) {
         (SourceState::Failed, _) => Outcome::Stopped(Stop::ReadFailed),
         (_, End::Refused(fault)) => Outcome::TermRefused(fault),
@@ -76,7 +116,25 @@ pub fn answer_input<I: Source, O: Sink>(
     settings: &Settings,
     input: &mut I,
     output: &mut O,
-) -> Outcome {
+) -> Outcome
+    requires ready { IsReady ready.old }
+    requires input_bytes { settings.now.input_bytes ≤ 2 ^ 40 }
+    ensures left { (bytes : List ℕ) → I.left input.old ≡ Some bytes
+        → LeavesOn (TextLeft settings.now (definitions_of ready.old) bytes (I.left input.new) result)
+        (O.taken output.old) (O.taken output.new) }
+    ensures through { I.through input.new ≡ I.through input.old }
+    ensures input_later { I.faults input.old ≤ I.faults input.new }
+    ensures read { result ≡ Outcome.Stopped Stop.ReadFailed → Rose (I.faults input.old) (I.faults input.new) }
+    ensures input_steady { result ≢ Outcome.Stopped Stop.ReadFailed → result ≢ Outcome.Stopped Stop.WriteFailed
+        → result ≢ Outcome.Stopped Stop.NoMemory → I.faults input.new ≡ I.faults input.old }
+    ensures output_later { O.faults output.old ≤ O.faults output.new }
+    ensures write { result ≡ Outcome.Stopped Stop.WriteFailed
+        → Rose (O.faults output.old) (O.faults output.new) }
+    ensures output_steady { result ≢ Outcome.Stopped Stop.WriteFailed
+        → O.faults output.new ≡ O.faults output.old }
+    ensures words { result ≢ Outcome.BadWords }
+    ensures told { CanBeTold result }
+{
     let mut stream = match Stream::new(alloc, settings.input_bytes) {
         Ok(stream) => stream,
         Err(_) => return Outcome::Stopped(Stop::NoMemory),
@@ -99,7 +157,25 @@ fn answer_chosen<F: Files, O: Sink>(
     settings: &Settings,
     files: &mut F,
     output: &mut O,
-) -> Outcome {
+) -> Outcome
+    requires ready { IsReady ready.old }
+    requires input_bytes { settings.now.input_bytes ≤ 2 ^ 40 }
+    ensures kept { F.named files.new ≡ F.named files.old }
+    ensures left { (bytes : List ℕ) → F.rest files.old ≡ Some bytes
+        → LeavesOn (TextLeft settings.now (definitions_of ready.old) bytes (F.rest files.new) result)
+        (O.taken output.old) (O.taken output.new) }
+    ensures files_later { F.faults files.old ≤ F.faults files.new }
+    ensures read { result ≡ Outcome.Stopped Stop.ReadFailed → Rose (F.faults files.old) (F.faults files.new) }
+    ensures files_steady { result ≢ Outcome.Stopped Stop.ReadFailed → result ≢ Outcome.Stopped Stop.WriteFailed
+        → result ≢ Outcome.Stopped Stop.NoMemory → F.faults files.new ≡ F.faults files.old }
+    ensures output_later { O.faults output.old ≤ O.faults output.new }
+    ensures write { result ≡ Outcome.Stopped Stop.WriteFailed
+        → Rose (O.faults output.old) (O.faults output.new) }
+    ensures output_steady { result ≢ Outcome.Stopped Stop.WriteFailed
+        → O.faults output.new ≡ O.faults output.old }
+    ensures words { result ≢ Outcome.BadWords }
+    ensures told { CanBeTold result }
+{
     let mut source = FileSource::new(files);
     answer_input(alloc, ready, settings, &mut source, output)
 }
@@ -112,7 +188,25 @@ pub fn answer_file<F: Files, O: Sink>(
     files: &mut F,
     name: &str,
     output: &mut O,
-) -> Outcome {
+) -> Outcome
+    requires ready { IsReady ready.old }
+    requires input_bytes { settings.now.input_bytes ≤ 2 ^ 40 }
+    ensures kept { F.named files.new ≡ F.named files.old }
+    ensures left { (named : List ℕ → Option (List ℕ)) → F.named files.old ≡ Some named
+        → LeavesOn (FileLeft settings.now (definitions_of ready.old) (named name.now) (F.rest files.new) result)
+        (O.taken output.old) (O.taken output.new) }
+    ensures files_later { F.faults files.old ≤ F.faults files.new }
+    ensures read { result ≡ Outcome.Stopped Stop.ReadFailed → Rose (F.faults files.old) (F.faults files.new) }
+    ensures files_steady { result ≢ Outcome.Stopped Stop.ReadFailed → result ≢ Outcome.Stopped Stop.WriteFailed
+        → result ≢ Outcome.Stopped Stop.NoMemory → F.faults files.new ≡ F.faults files.old }
+    ensures output_later { O.faults output.old ≤ O.faults output.new }
+    ensures write { result ≡ Outcome.Stopped Stop.WriteFailed
+        → Rose (O.faults output.old) (O.faults output.new) }
+    ensures output_steady { result ≢ Outcome.Stopped Stop.WriteFailed
+        → O.faults output.new ≡ O.faults output.old }
+    ensures words { result ≢ Outcome.BadWords }
+    ensures told { CanBeTold result }
+{
     if files.choose(name).is_err() {
         return Outcome::Stopped(Stop::ReadFailed);
     }

@@ -1,4 +1,14 @@
 // The line of a term.
+ghost use Rattle.std.specs.Prelude.{◌≡◌, ◌<◌, ◌++◌, IfOk};
+ghost use Rattle.eq_base.specs.Tree.{size, nth_subtree};
+ghost use Rattle.symbol_table.specs.Table.{Keeps, names_of};
+ghost use Rattle.symbol_table.specs.Reading.{read, IsLiveTerm};
+ghost use Rattle.term_input.specs.Printing.{print};
+ghost use Rattle.ei_program.specs.Definitions.{definitions_of};
+ghost use Rattle.ei_program.specs.Loading.{IsReady};
+ghost use Rattle.ei_program.specs.Lines.{ended};
+ghost use Rattle.ei_program.specs.Stepping.{IsFormText, IsLineText};
+
 use crate::ready::Ready;
 use crate::settings::Settings;
 use eq_base::{Flat, NoMemory};
@@ -14,7 +24,12 @@ fn printed(
     front: &[u8],
     term: &Flat,
     node: usize,
-) -> Result<Vec<u8>, NoMemory> {
+) -> Result<Vec<u8>, NoMemory>
+    requires live { IsLiveTerm ready.now.symbols term.now }
+    requires node { node < size term.now }
+    ensures { IfOk result (λ text. text.items ≡ ended (front.now ++ print settings.now.syntax
+        (names_of ready.now.symbols) (nth_subtree (read ready.now.symbols term.now) node))) }
+{
     let mut text = Vec::new(alloc);
     text.extend_from_slice(front)?;
     write_term(
@@ -35,7 +50,12 @@ fn line_of_form(
     ready: &Ready,
     settings: &Settings,
     form: &Flat,
-) -> Result<Vec<u8>, NoMemory> {
+) -> Result<Vec<u8>, NoMemory>
+    requires ready { IsReady ready.now }
+    requires live { IsLiveTerm ready.now.symbols form.now }
+    ensures { IfOk result (λ text. IsFormText settings.now (definitions_of ready.now)
+        (read ready.now.symbols form.now) text.items) }
+{
     if let Some(node) = first_past(&ready.regular, &ready.symbols, form) {
         return printed(alloc, ready, settings, b"? past ", form, node);
     }
@@ -52,7 +72,14 @@ pub fn line_of(
     ready: &mut Ready,
     settings: &Settings,
     term: Flat,
-) -> Result<Vec<u8>, NoMemory> {
+) -> Result<Vec<u8>, NoMemory>
+    requires ready { IsReady ready.old }
+    requires live { IsLiveTerm ready.old.symbols term }
+    ensures line { IfOk result (λ text. IsLineText settings.now (definitions_of ready.old)
+        (read ready.old.symbols term) text.items) }
+    ensures same { ready.new.regular ≡ ready.old.regular }
+    ensures keeps { Keeps ready.old.symbols ready.new.symbols }
+{
     ready.symbols.has_one_number_each();
     let budget = settings.budget;
     match plain_run(alloc, &ready.regular, &mut ready.symbols, term, budget)? {

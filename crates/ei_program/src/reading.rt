@@ -1,4 +1,11 @@
 // What comes next in an input: a term, or the end.
+ghost use Rattle.std.specs.Prelude.{◌≡◌, ◌≢◌, ◌↔◌, ◌≤◌, length, [], true, IfOk, OnOk};
+ghost use Rattle.symbol_table.specs.Table.{Keeps, names_of};
+ghost use Rattle.term_input.specs.Ending.{BytesEnded};
+ghost use Rattle.term_input.specs.Streams.{MayTake};
+ghost use Rattle.ei_program.specs.Reading.{window_of, MayChange, EndsSo, Goes, IsCounted, SkipsTo};
+ghost use Rattle.ei_program.specs.Reading.{IsFarther, IsLiveNext, IsThing, ComesNext};
+
 use crate::dots::Dots;
 use crate::gap::skipped;
 use eq_base::{Flat, NoMemory};
@@ -33,11 +40,17 @@ pub enum Next {
 }
 
 /// Gives up blanks and comments, and says whether something else stands behind them; takes what is needed for it.
-fn skip_gap<I: Source>(stream: &mut Stream, input: &mut I) -> Result<bool, NoMemory> {
+fn skip_gap<I: Source>(stream: &mut Stream, input: &mut I) -> Result<bool, NoMemory>
+    ensures goes { IfOk result (λ stands. Goes (I.left input.old) (I.left input.new) stream.old stream.new
+        (SkipsTo stands stream.old stream.new)) }
+    ensures count { IsCounted (I.faults input.old) (I.faults input.new) stream.old stream.new }
+    ensures through { I.through input.new ≡ I.through input.old }
+{
     let mut in_comment = false;
     loop {
         let readable = stream.readable();
-        let len = skipped(readable, &mut in_comment);
+        let (len, open) = skipped(readable, in_comment);
+        in_comment = open;
         let stands = len < readable.len();
         let place = stream.place() + len as u64;
         stream.drop_to(place);
@@ -49,18 +62,25 @@ fn skip_gap<I: Source>(stream: &mut Stream, input: &mut I) -> Result<bool, NoMem
 }
 
 /// The bytes in which a term is read that begins with the first byte that is held.
-fn window(stream: &Stream) -> &[u8] {
+fn window(stream: &Stream) -> &[u8]
+    ensures { result.now ≡ window_of stream.now }
+{
     let readable = stream.readable();
     &readable[..readable.len().min(WINDOW_BYTES)]
 }
 
 /// Whether more bytes can change how a term is read that begins with the first byte that is held.
-fn may_change(stream: &Stream) -> bool {
+fn may_change(stream: &Stream) -> bool
+    ensures { (result ≡ true) ↔ MayChange stream.now }
+{
     stream.may_take() && stream.bytes().len() <= WINDOW_BYTES
 }
 
 /// Whether the bytes ended before the term did that has this fault.
-fn bytes_ended(window: &[u8], fault: Fault) -> bool {
+fn bytes_ended(window: &[u8], fault: Fault) -> bool
+    requires { fault.byte ≤ length window.now }
+    ensures { (result ≡ true) ↔ BytesEnded window.now fault }
+{
     match fault.kind {
         FaultKind::Unended => true,
         FaultKind::OpenString => !window[fault.byte..].contains(&b'\n'),
@@ -69,7 +89,10 @@ fn bytes_ended(window: &[u8], fault: Fault) -> bool {
 }
 
 /// The end where nothing is left of the bytes up to the limit.
-fn end_behind(stream: &Stream) -> End {
+fn end_behind(stream: &Stream) -> End
+    ensures whole { stream.now.bytes ≡ [] → result ≡ End.Whole }
+    ensures long { stream.now.bytes ≢ [] → result ≡ End.Long }
+{
     if stream.bytes().is_empty() {
         End::Whole
     } else {
@@ -78,7 +101,10 @@ fn end_behind(stream: &Stream) -> End {
 }
 
 /// The end at a term with a fault that begins with the first byte that is held.
-fn end_at(stream: &Stream, fault: Fault) -> End {
+fn end_at(stream: &Stream, fault: Fault) -> End
+    requires within { fault.byte ≤ length (window_of stream.now) }
+    ensures { EndsSo stream.now fault result }
+{
     let window = window(stream);
     let from = stream.place() as usize;
     if !bytes_ended(window, fault) || window.len() == stream.bytes().len() {
@@ -97,7 +123,13 @@ fn end_at(stream: &Stream, fault: Fault) -> End {
 }
 
 /// Takes more, until a dot that can end the term was taken or no more bytes can change how it is read.
-fn take_on<I: Source>(stream: &mut Stream, input: &mut I, dots: &mut Dots) -> Result<(), NoMemory> {
+fn take_on<I: Source>(stream: &mut Stream, input: &mut I, dots: &mut Dots) -> Result<(), NoMemory>
+    requires { MayTake stream.old }
+    ensures goes { OnOk result (Goes (I.left input.old) (I.left input.new) stream.old stream.new
+        (λ taken. IsFarther stream.old stream.new)) }
+    ensures count { IsCounted (I.faults input.old) (I.faults input.new) stream.old stream.new }
+    ensures through { I.through input.new ≡ I.through input.old }
+{
     loop {
         stream.take_more(input)?;
         if dots.reach(stream.bytes()) || !may_change(stream) {
@@ -114,7 +146,14 @@ fn next_thing<I: Source>(
     symbols: &mut Symbols,
     stream: &mut Stream,
     input: &mut I,
-) -> Result<Next, NoMemory> {
+) -> Result<Next, NoMemory>
+    ensures goes { IfOk result (λ next. Goes (I.left input.old) (I.left input.new) stream.old stream.new
+        (IsThing syntax (names_of symbols.old) symbols.new stream.old stream.new next)) }
+    ensures live { IfOk result (IsLiveNext symbols.new) }
+    ensures keeps { Keeps symbols.old symbols.new }
+    ensures count { IsCounted (I.faults input.old) (I.faults input.new) stream.old stream.new }
+    ensures through { I.through input.new ≡ I.through input.old }
+{
     let mut dots = Dots::new();
     loop {
         match read_term(alloc, syntax, symbols, window(stream), 0) {
@@ -143,7 +182,14 @@ pub fn next_term<I: Source>(
     symbols: &mut Symbols,
     stream: &mut Stream,
     input: &mut I,
-) -> Result<Next, NoMemory> {
+) -> Result<Next, NoMemory>
+    ensures goes { IfOk result (λ next. Goes (I.left input.old) (I.left input.new) stream.old stream.new
+        (ComesNext syntax (names_of symbols.old) symbols.new stream.old stream.new (I.left input.new) next)) }
+    ensures live { IfOk result (IsLiveNext symbols.new) }
+    ensures keeps { Keeps symbols.old symbols.new }
+    ensures count { IsCounted (I.faults input.old) (I.faults input.new) stream.old stream.new }
+    ensures through { I.through input.new ≡ I.through input.old }
+{
     if skip_gap(stream, input)? {
         next_thing(alloc, syntax, symbols, stream, input)
     } else {

@@ -1,4 +1,12 @@
 // The run: the words, the definitions file, and then the mode.
+ghost use Rattle.std.specs.Prelude.{◌≡◌, ◌≢◌, ◌⊎◌, ◌≤◌, ◌↔◌, ℕ, List, Option, Some, map, string_bytes};
+ghost use Rattle.eq_ports.specs.Causes.{Rose};
+ghost use Rattle.command_line.specs.Asked.{IsCommandLine};
+ghost use Rattle.ei_program.specs.Definitions.{definitions_of};
+ghost use Rattle.ei_program.specs.Outcomes.{CanBeTold};
+ghost use Rattle.ei_program.specs.Checking.{IsChecked};
+ghost use Rattle.ei_program.specs.Run.{settings_of, Leaves, LeavesOn};
+
 use crate::answer::{answer_file, answer_input};
 use crate::loading::load;
 use crate::outcome::Outcome;
@@ -13,7 +21,9 @@ use std::alloc::Global;
 const INPUT_BYTES: u64 = 1_099_511_627_776;
 
 /// How terms are read and answered for a task.
-fn settings_of(task: Task) -> Settings {
+fn settings_of(task: Task) -> Settings
+    ensures { result ≡ settings_of task }
+{
     Settings {
         syntax: task.syntax,
         budget: task.budget,
@@ -23,7 +33,18 @@ fn settings_of(task: Task) -> Settings {
 }
 
 /// Tells on the output that a file is accepted, and how many equations it gives.
-fn tell_accepted<O: Sink>(alloc: Global, ready: &Ready, output: &mut O) -> Outcome {
+fn tell_accepted<O: Sink>(alloc: Global, ready: &Ready, output: &mut O) -> Outcome
+    ensures left { LeavesOn (IsChecked (definitions_of ready.now) result)
+        (O.taken output.old) (O.taken output.new) }
+    ensures no_read { result ≢ Outcome.Stopped Stop.ReadFailed }
+    ensures output_later { O.faults output.old ≤ O.faults output.new }
+    ensures write { result ≡ Outcome.Stopped Stop.WriteFailed
+        → Rose (O.faults output.old) (O.faults output.new) }
+    ensures output_steady { result ≢ Outcome.Stopped Stop.WriteFailed
+        → O.faults output.new ≡ O.faults output.old }
+    ensures words { result ≢ Outcome.BadWords }
+    ensures told { CanBeTold result }
+{
     let count = ready.regular.rules().len();
     let Ok(line) = format!(in alloc; "accepted {count}\n") else {
         return Outcome::Stopped(Stop::NoMemory);
@@ -34,22 +55,6 @@ fn tell_accepted<O: Sink>(alloc: Global, ready: &Ready, output: &mut O) -> Outco
     }
 }
 
-/// Answers the terms of the named file or, where none is named, of the input.
-fn answer<F: Files, I: Source, O: Sink>(
-    alloc: Global,
-    ready: &mut Ready,
-    settings: &Settings,
-    files: &mut F,
-    terms: Option<&str>,
-    input: &mut I,
-    output: &mut O,
-) -> Outcome {
-    match terms {
-        Some(name) => answer_file(alloc, ready, settings, files, name, output),
-        None => answer_input(alloc, ready, settings, input, output),
-    }
-}
-
 /// Reads the words and the definitions file, and does what the mode says.
 pub fn run<F: Files, I: Source, O: Sink>(
     alloc: Global,
@@ -57,7 +62,30 @@ pub fn run<F: Files, I: Source, O: Sink>(
     files: &mut F,
     input: &mut I,
     output: &mut O,
-) -> Outcome {
+) -> Outcome
+    ensures left { (named : List ℕ → Option (List ℕ)) (bytes : List ℕ) → F.named files.old ≡ Some named
+        → I.left input.old ≡ Some bytes
+        → LeavesOn
+        (Leaves (record { words = map string_bytes words.now; named = named; input = bytes })
+        (I.left input.new) result)
+        (O.taken output.old) (O.taken output.new) }
+    ensures words { (result ≡ Outcome.BadWords) ↔ (¬ IsCommandLine (map string_bytes words.now)) }
+    ensures told { CanBeTold result }
+    ensures files_later { F.faults files.old ≤ F.faults files.new }
+    ensures input_later { I.faults input.old ≤ I.faults input.new }
+    ensures output_later { O.faults output.old ≤ O.faults output.new }
+    ensures read { result ≡ Outcome.Stopped Stop.ReadFailed → Rose (F.faults files.old) (F.faults files.new)
+        ⊎ Rose (I.faults input.old) (I.faults input.new) }
+    ensures write { result ≡ Outcome.Stopped Stop.WriteFailed
+        → Rose (O.faults output.old) (O.faults output.new) }
+    ensures files_steady { result ≢ Outcome.Stopped Stop.ReadFailed → result ≢ Outcome.Stopped Stop.WriteFailed
+        → result ≢ Outcome.Stopped Stop.NoMemory → F.faults files.new ≡ F.faults files.old }
+    ensures input_steady { result ≢ Outcome.Stopped Stop.ReadFailed
+        → result ≢ Outcome.Stopped Stop.WriteFailed → result ≢ Outcome.Stopped Stop.NoMemory
+        → I.faults input.new ≡ I.faults input.old }
+    ensures output_steady { result ≢ Outcome.Stopped Stop.WriteFailed
+        → O.faults output.new ≡ O.faults output.old }
+{
     let Some(asked) = read_words(words) else {
         return Outcome::BadWords;
     };
@@ -65,15 +93,10 @@ pub fn run<F: Files, I: Source, O: Sink>(
         Ok(mut ready) => match asked.task.mode {
             Mode::Answer => {
                 let settings = settings_of(asked.task);
-                answer(
-                    alloc,
-                    &mut ready,
-                    &settings,
-                    files,
-                    asked.terms,
-                    input,
-                    output,
-                )
+                match asked.terms {
+                    Some(name) => answer_file(alloc, &mut ready, &settings, files, name, output),
+                    None => answer_input(alloc, &mut ready, &settings, input, output),
+                }
             }
             Mode::Check => tell_accepted(alloc, &ready, output),
         },
