@@ -9,7 +9,7 @@ use Rattle.symbol_table.specs.Reading.{read_rule, read_system, AreLive}
 use Rattle.symbol_table.proofs.Keeping.{names_kept, includes_as}
 use Rattle.symbol_table.proofs.Rereading.{rule_kept, equations_kept}
 use Rattle.eq_base.specs.declared.meeting.SymbolClass.TheVariants.{TruthValues}
-use Rattle.ei_program.specs.declared.loading.Loaded.{Loaded}
+use Rattle.ei_program.specs.declared.ready.Ready.{Ready}
 use Rattle.qualifiers.specs.AsRead.{plain_equation}
 use Rattle.ei_program.specs.Definitions.{rule_in, system, IsAccepted, definitions_of}
 use Rattle.ei_program.specs.Loading.{IsReady}
@@ -23,16 +23,16 @@ module _ (old new : Table) (k : Keeps old new) where
       ap (λ x. x ∷ map (plain_equation new) es) first ∙ ap (λ xs. plain_equation old e ∷ xs) others
 
 -- what is held, with another table
-abbrev pub held_with : Loaded → Table → Loaded
+abbrev pub held_with : Ready → Table → Ready
 held_with l table = record l { symbols = table }
 
-module _ (l : Loaded) (new : Table) (k : Keeps l.symbols new) (ready : IsReady l) where
+module _ (l : Ready) (new : Table) (k : Keeps l.symbols new) (ready : IsReady l) where
   -- the definitions are the same
   pub definitions-kept : definitions_of (held_with l new) ≡ definitions_of l
   definitions-kept =
       let names = names_kept l.symbols new k in
       let equations = read_kept l.symbols new k l.regular ready.live in
-      λ i. record { syntax = l.syntax; names = names i; variables = l.variables; equations = equations i }
+      λ i. record { names = names i; equations = equations i }
 
   -- and can be used still
   pub ready_kept : IsReady (held_with l new)
@@ -44,7 +44,7 @@ module _ (l : Loaded) (new : Table) (k : Keeps l.symbols new) (ready : IsReady l
   }
 
 -- the system of what is held is that of the equations as they are read
-pub system-held : (l : Loaded) → system (definitions_of l) ≡ read_system l.symbols l.regular
+pub system-held : (l : Ready) → system (definitions_of l) ≡ read_system l.symbols l.regular
 system-held l =
     ap (λ rules. record { rules = rules; in_class = in_read_class; value_of = value_of })
     (map-map rule_in (plain_equation l.symbols) (read_rule l.symbols) l.regular (λ e. refl))

@@ -19,3 +19,7 @@ mod OneInput
 mod OneDue
 mod Exact
 mod WrittenSteps
+mod Phases
+mod OneLine
+mod OneDue
+mod Behind

@@ -58,8 +58,9 @@ pub record IsSpent (budget : ℕ) (d : Definitions) (t : Tree ReadHead) (line : 
   pub last : Tree ReadHead
   pub run : PlainRun (system d) t budget last
   pub unfinished : IsNormal (system d) last → ⊥
-  pub longer : (form : Tree ReadHead) → IsDerivable (system d) t form → IsNormal (system d) form → (steps : ℕ)
-      × HasLength (system d) t steps form × (budget < steps)
+  pub ends : (form : Tree ReadHead) → IsDerivable (system d) t form → IsNormal (system d) form → (steps : ℕ)
+      × HasLength (system d) t steps form
+  pub longer : (form : Tree ReadHead) (steps : ℕ) → HasLength (system d) t steps form → budget < steps
   pub written : line ≡ codes "? spent " ++ decimal budget
 
 -- the line answers the term

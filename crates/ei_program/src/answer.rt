@@ -61,7 +61,8 @@ fn answer_next<I: Source, O: Sink>(
     input: &mut I,
     output: &mut O,
 ) -> Result<Step, Stop>
-    requires { IsReady ready.old }
+    requires ready { IsReady ready.old }
+    requires within { stream.old.place ≤ stream.old.limit }
     ensures ready { OnOk result (ready.new ≡ ready.old) }
     ensures step { IfOk result (λ step. Goes (I.left input.old) (I.left input.new) stream.old stream.new
         (DoesStep settings.now (definitions_of ready.old) stream.old stream.new (I.left input.new)
@@ -140,7 +141,7 @@ pub fn answer_input<I: Source, O: Sink>(
         Err(_) => return Outcome::Stopped(Stop::NoMemory),
     };
     let mut any_question = false;
-    loop {
+    'terms: loop {
         match answer_next(alloc, ready, settings, &mut stream, input, output) {
             Ok(Step::Answer) => {}
             Ok(Step::Question) => any_question = true,

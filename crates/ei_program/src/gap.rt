@@ -14,18 +14,18 @@ pub fn skipped(bytes: &[u8], in_comment: bool) -> (usize, bool)
         → Passed text len in_comment → IsGap text (len + result.0) }
 {
     let mut len = 0;
-    let mut open = in_comment;
+    let mut inside = in_comment;
     for byte in bytes {
-        if open {
-            open = *byte != b'\n';
+        if inside {
+            inside = *byte != b'\n';
         } else if *byte == b'%' {
-            open = true;
+            inside = true;
         } else if !is_blank(*byte) {
             break;
         }
         len += 1;
     }
-    (len, open)
+    (len, inside)
 }
 
 /// Whether the byte is blank.

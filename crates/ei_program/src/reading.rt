@@ -1,5 +1,5 @@
 // What comes next in an input: a term, or the end.
-ghost use Rattle.std.specs.Prelude.{◌≡◌, ◌≢◌, ◌↔◌, ◌≤◌, length, [], true, IfOk, OnOk};
+ghost use Rattle.std.specs.Prelude.{◌≡◌, ◌≢◌, ◌↔◌, ◌≤◌, [], true, IfOk, IfSome, OnOk};
 ghost use Rattle.symbol_table.specs.Table.{Keeps, names_of};
 ghost use Rattle.term_input.specs.Ending.{BytesEnded};
 ghost use Rattle.term_input.specs.Streams.{MayTake};
@@ -41,16 +41,17 @@ pub enum Next {
 
 /// Gives up blanks and comments, and says whether something else stands behind them; takes what is needed for it.
 fn skip_gap<I: Source>(stream: &mut Stream, input: &mut I) -> Result<bool, NoMemory>
+    requires { stream.old.place ≤ stream.old.limit }
     ensures goes { IfOk result (λ stands. Goes (I.left input.old) (I.left input.new) stream.old stream.new
         (SkipsTo stands stream.old stream.new)) }
     ensures count { IsCounted (I.faults input.old) (I.faults input.new) stream.old stream.new }
     ensures through { I.through input.new ≡ I.through input.old }
 {
     let mut in_comment = false;
-    loop {
+    'gap: loop {
         let readable = stream.readable();
-        let (len, open) = skipped(readable, in_comment);
-        in_comment = open;
+        let (len, inside) = skipped(readable, in_comment);
+        in_comment = inside;
         let stands = len < readable.len();
         let place = stream.place() + len as u64;
         stream.drop_to(place);
@@ -78,12 +79,14 @@ fn may_change(stream: &Stream) -> bool
 
 /// Whether the bytes ended before the term did that has this fault.
 fn bytes_ended(window: &[u8], fault: Fault) -> bool
-    requires { fault.byte ≤ length window.now }
     ensures { (result ≡ true) ↔ BytesEnded window.now fault }
 {
     match fault.kind {
         FaultKind::Unended => true,
-        FaultKind::OpenString => !window[fault.byte..].contains(&b'\n'),
+        FaultKind::OpenString => match window.get(fault.byte..) {
+            Some(behind) => !behind.contains(&b'\n'),
+            None => true,
+        },
         _ => false,
     }
 }
@@ -100,26 +103,27 @@ fn end_behind(stream: &Stream) -> End
     }
 }
 
-/// The end at a term with a fault that begins with the first byte that is held.
-fn end_at(stream: &Stream, fault: Fault) -> End
-    requires within { fault.byte ≤ length (window_of stream.now) }
-    ensures { EndsSo stream.now fault result }
+/// The end at a term with a fault that begins with the first byte that is held, or `None` where no `usize` counts to
+/// the fault's byte, which lies in the window.
+fn end_at(stream: &Stream, fault: Fault) -> Option<End>
+    ensures { IfSome result (EndsSo stream.now fault) }
 {
     let window = window(stream);
     let from = stream.place() as usize;
     if !bytes_ended(window, fault) || window.len() == stream.bytes().len() {
-        return End::Refused(Fault {
+        let byte = from.checked_add(fault.byte)?;
+        return Some(End::Refused(Fault {
             kind: fault.kind,
-            byte: from + fault.byte,
-        });
+            byte,
+        }));
     }
     if window.len() < WINDOW_BYTES {
-        return End::Long;
+        return Some(End::Long);
     }
-    End::Refused(Fault {
+    Some(End::Refused(Fault {
         kind: FaultKind::TermLong,
         byte: from,
-    })
+    }))
 }
 
 /// Takes more, until a dot that can end the term was taken or no more bytes can change how it is read.
@@ -130,7 +134,7 @@ fn take_on<I: Source>(stream: &mut Stream, input: &mut I, dots: &mut Dots) -> Re
     ensures count { IsCounted (I.faults input.old) (I.faults input.new) stream.old stream.new }
     ensures through { I.through input.new ≡ I.through input.old }
 {
-    loop {
+    'pieces: loop {
         stream.take_more(input)?;
         if dots.reach(stream.bytes()) || !may_change(stream) {
             return Ok(());
@@ -155,7 +159,7 @@ fn next_thing<I: Source>(
     ensures through { I.through input.new ≡ I.through input.old }
 {
     let mut dots = Dots::new();
-    loop {
+    'tries: loop {
         match read_term(alloc, syntax, symbols, window(stream), 0) {
             Ok((term, len)) => {
                 let place = stream.place() + len as u64;
@@ -165,7 +169,8 @@ fn next_thing<I: Source>(
             Err(ReadError::NoMemory) => return Err(NoMemory),
             Err(ReadError::Refused(fault)) => {
                 if !may_change(stream) {
-                    return Ok(Next::End(end_at(stream, fault)));
+                    let end = end_at(stream, fault).ok_or(NoMemory)?;
+                    return Ok(Next::End(end));
                 }
             }
         }
@@ -183,6 +188,7 @@ pub fn next_term<I: Source>(
     stream: &mut Stream,
     input: &mut I,
 ) -> Result<Next, NoMemory>
+    requires { stream.old.place ≤ stream.old.limit }
     ensures goes { IfOk result (λ next. Goes (I.left input.old) (I.left input.new) stream.old stream.new
         (ComesNext syntax (names_of symbols.old) symbols.new stream.old stream.new (I.left input.new) next)) }
     ensures live { IfOk result (IsLiveNext symbols.new) }
