@@ -23,3 +23,4 @@ mod Phases
 mod OneLine
 mod OneDue
 mod Behind
+mod Taken
