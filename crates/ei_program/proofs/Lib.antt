@@ -24,3 +24,4 @@ mod OneLine
 mod OneDue
 mod Behind
 mod Taken
+mod Answered
