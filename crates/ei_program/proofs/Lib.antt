@@ -25,3 +25,5 @@ mod OneDue
 mod Behind
 mod Taken
 mod Answered
+mod Skipping
+mod Counting
