@@ -27,3 +27,5 @@ mod Taken
 mod Answered
 mod Skipping
 mod Counting
+mod Leaving
+mod Exact
