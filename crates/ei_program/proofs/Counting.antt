@@ -5,7 +5,7 @@ use Rattle.term_input.specs.declared.source_state.SourceState.{SourceState}
 use Rattle.term_input.specs.declared.source_state.SourceState.TheVariants.{Open, AtEnd, Failed}
 use Rattle.term_input.specs.Streams.{Held, taken_count, MayTake, Takes, HasFailed, IsTakingCount, IsTaken}
 use Rattle.term_input.proofs.Streams.{more_taken, given_up}
-use Rattle.ei_program.specs.Reading.{Goes, IsCounted}
+use Rattle.ei_program.specs.Reading.{Goes, IsCounted, IsFarther}
 
 state_of : Held → SourceState
 state_of held = held.state
@@ -90,6 +90,30 @@ module _ (mid left : Option (List ℕ)) (old new : Held) (t : Takes mid left old
       by_state Open is = let some = t.some may is in let one : open_count new.state ≡ 1 = ap open_count is in omega (arith, some, one, open_before, taken_more, t.limit, t.within, may.1)
       by_state AtEnd is = let none : open_count new.state ≡ 0 = ap open_count is in omega (arith, none, open_before, taken_more, t.limit)
       by_state Failed is = let none : open_count new.state ≡ 0 = ap open_count is in omega (arith, none, open_before, taken_more, t.limit)
+
+-- more bytes, or no open source, leave less to be taken too
+module _ (old new : Held) (f : IsFarther old new) (limit : new.limit ≡ old.limit) (may : MayTake old) where
+  most_open : (state : SourceState) → open_count state ≤ 1
+  most_open Open = omega arith
+  most_open AtEnd = omega arith
+  most_open Failed = omega arith
+
+  none_open : (state : SourceState) → state ≢ Open → open_count state ≡ 0
+  none_open Open other = absurd (other refl)
+  none_open AtEnd other = refl
+  none_open Failed other = refl
+
+  pub farther_less : to_take new < to_take old
+  unfolding to_take
+  farther_less = by_more f.some
+    where
+      open_before : open_count old.state ≡ 1
+      open_before = ap open_count may.0
+
+      by_more : (length old.bytes < length new.bytes) ⊎ (new.state ≢ Open) → to_take new < to_take old
+      unfolding to_take
+      by_more (inl more) = omega (arith, more, open_before, most_open new.state, f.place, limit, may.1)
+      by_more (inr other) = omega (arith, open_before, none_open new.state other, f.place, f.more, limit)
 
 -- ---- what was taken
 

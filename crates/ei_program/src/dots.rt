@@ -59,7 +59,7 @@ impl Dots {
     /// Whether the first dot that ends a term stands in these bytes of the term, and not in those of an earlier call.
     /// Each byte is looked at once.
     pub fn reach(&mut self, bytes: &[u8]) -> bool {
-        while !self.found && self.looked_at < bytes.len() {
+        'bytes: while !self.found && self.looked_at < bytes.len() {
             let byte = bytes[self.looked_at];
             self.looked_at += 1;
             self.found = matches!(self.place, Place::Open) && self.depth == 0 && byte == b'.';
