@@ -41,7 +41,7 @@ pub record Answered (settings : Settings) (d : Definitions) (before left : Optio
 
 -- ---- lines
 
-bytes_more : (lines : List (List ℕ)) (line : List ℕ) → bytes_of (lines ++ line ∷ []) ≡ bytes_of lines ++ ended line
+pub bytes_more : (lines : List (List ℕ)) (line : List ℕ) → bytes_of (lines ++ line ∷ []) ≡ bytes_of lines ++ ended line
 bytes_more [] line = append-nil (ended line)
 bytes_more (l ∷ lines) line = ap (λ bs. ended l ++ bs) (bytes_more lines line) ∙ sym (append_assoc (ended l) (bytes_of lines) (ended line))
 

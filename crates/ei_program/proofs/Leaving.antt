@@ -78,7 +78,7 @@ module _ (given : Given) (task : Task) (name : List ℕ) (terms : Option (List �
       told_of_file Answered written t =
           (checked d, due_by (checked d) (subst (λ m. DoesMode m given command d (Ok (checked d))) (sym mode) refl), refl, is, t ∙ sym one_line)
       told_of_file (Stopped WriteFailed) written t =
-          (accepted_line d ∷ [], inr (begun_by (accepted_line d ∷ []) (subst (λ m. BeginsMode m given command d (accepted_line d ∷ [])) (sym mode) ([], append-nil (accepted_line d ∷ [])))), subst (IsFront written) (sym one_line) t)
+          (accepted_line d ∷ [], inr (begun_by (accepted_line d ∷ []) (subst (λ m. BeginsMode m given command d (accepted_line d ∷ [])) (sym mode) ([], sym (append-nil (accepted_line d ∷ []))))), subst (IsFront written) (sym one_line) t)
       told_of_file (Stopped NoMemory) written t = ([], inl refl, t)
       told_of_file (Stopped ReadFailed) written t = absurd t
       told_of_file Questions written t = absurd t

@@ -29,3 +29,4 @@ mod Skipping
 mod Counting
 mod Leaving
 mod Exact
+mod Ended

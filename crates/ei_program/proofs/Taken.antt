@@ -136,7 +136,7 @@ goes_weaker a b s t P Q each first before taken is =
     (more, mid, each before (taken ++ more) mid p)
 
 -- whether a read failed is decided
-failed_or_not : (state : SourceState) → (state ≡ Failed) ⊎ (state ≢ Failed)
+pub failed_or_not : (state : SourceState) → (state ≡ Failed) ⊎ (state ≢ Failed)
 failed_or_not Open = inr (λ no. cc (no))
 failed_or_not AtEnd = inr (λ no. cc (no))
 failed_or_not Failed = inl refl

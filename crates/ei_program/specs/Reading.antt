@@ -1,6 +1,7 @@
 -- What comes next in the bytes that were taken of an input.
 use Rattle.std.specs.Prelude.{◌≡◌, ◌≢◌, ◌⊎◌, ℕ, ◌+◌, ◌-◌, ◌<◌, ◌≤◌, ◌^◌, Bool, true, false, List, ◌++◌, length, take}
 use Rattle.std.specs.Prelude.{Result, Ok, Err, Option, Some}
+use Rattle.std.specs.Io.KnownBytes.{IsAtEnd}
 use Rattle.eq_base.specs.Tree.{Tree}
 use Rattle.eq_base.specs.ReadHead.{ReadHead}
 use Rattle.eq_ports.specs.Causes.{Rose}
@@ -102,10 +103,11 @@ module _ (syntax : Syntax) (names : Table) where
       × inputs.EndsAt (ReadsOne syntax names) BytesEnded old.limit taken old.place fault (end_of end)
       × (new.place ≡ old.place) × (¬ MayChange new)
 
-  -- the end comes next also in the whole input, unless a read failed
-  abbrev pub Settles : (old new : Held) (left : Option (List ℕ)) → End → List ℕ → Type 0
-  Settles old new left end taken = new.state ≢ states.Failed → (rest : List ℕ) → left ≡ Some rest
-      → TermNext old.limit (taken ++ rest) old.place (Err (end_of end))
+  -- unless a read failed, the end comes next also in the whole input, and nothing is left where that is whole
+  pub record Settles (old new : Held) (left : Option (List ℕ)) (end : End) (taken : List ℕ) : Type 0 where
+    pub stays : new.state ≢ states.Failed → (rest : List ℕ) → left ≡ Some rest
+        → TermNext old.limit (taken ++ rest) old.place (Err (end_of end))
+    pub at_end : new.state ≢ states.Failed → end ≡ Whole → IsAtEnd left
 
   -- this comes next in the bytes that were taken, and is given up
   abbrev pub ComesNext : Table → (old new : Held) (left : Option (List ℕ)) → Next → List ℕ → Type 0
