@@ -150,7 +150,7 @@ module _ (settings : Settings) (d : Definitions) (distinct : HasDistinctNames d.
       sound_end sound (ends.Refused fault) e b g = all_answered sound (TermRefused fault) (ap (λ x. told_at x any) e)
       sound_end sound ends.Long e b g = all_answered sound InputLong (ap (λ x. told_at x any) e)
 
-      sound_outcome : (state : SourceState) → state ≢ states.Failed → (e : End) (b : Bool) (outcome : Outcome) → IsOutcomeAt e b state outcome → outcome ≡ OutcomeAt e b
+      sound_outcome : (state : SourceState) → state ≢ states.Failed → (e : End) (b : Bool) (outcome : Outcome) → IsOutcomeAt state e b outcome → outcome ≡ OutcomeAt e b
       sound_outcome states.Failed sound e b outcome is_outcome = absurd (sound refl)
       sound_outcome states.Open sound ends.Whole true outcome is_outcome = is_outcome
       sound_outcome states.Open sound ends.Whole false outcome is_outcome = is_outcome
@@ -162,14 +162,8 @@ module _ (settings : Settings) (d : Definitions) (distinct : HasDistinctNames d.
       sound_outcome states.AtEnd sound ends.Long b outcome is_outcome = is_outcome
 
       -- by the outcome
-      pub ended_so : (outcome : Outcome) → IsOutcomeAt end any new.state outcome → LeavesOn (TextLeft settings d input left outcome) out_old out_new
+      pub ended_so : (outcome : Outcome) → IsOutcomeAt new.state end any outcome → LeavesOn (TextLeft settings d input left outcome) out_old out_new
       ended_so outcome is_outcome = elim (failed_or_not new.state) [
-        | inl failed ↦ subst (λ o. LeavesOn (TextLeft settings d input left o) out_old out_new) (sym (failed_outcome outcome (subst (λ s. IsOutcomeAt end any s outcome) failed is_outcome))) cut_short
+        | inl failed ↦ subst (λ o. LeavesOn (TextLeft settings d input left o) out_old out_new) (sym (subst (λ s. IsOutcomeAt s end any outcome) failed is_outcome)) cut_short
         | inr sound ↦ subst (λ o. LeavesOn (TextLeft settings d input left o) out_old out_new) (sym (sound_outcome new.state sound end any outcome is_outcome)) (sound_end sound end refl any refl)
       ]
-        where
-          failed_outcome : (o : Outcome) → IsOutcomeAt end any states.Failed o → o ≡ Stopped ReadFailed
-          failed_outcome o is_failed = by_end end any o is_failed
-            where
-              by_end : (e : End) (b : Bool) (o : Outcome) → IsOutcomeAt e b states.Failed o → o ≡ Stopped ReadFailed
-              by_end e b o is_failed = is_failed

@@ -56,9 +56,9 @@ module _ (settings : Settings) (d : Definitions) (old new : Held) (left out_old 
       × (front ++ back ≡ ended line) × Appends out_old out_new front
 
 -- the outcome of an input that ends so, whose lines some begin with `?` or none
-abbrev pub IsOutcomeAt : EndRead → Bool → SourceState → Outcome → Type 0
-IsOutcomeAt end any states.Failed outcome = outcome ≡ Stopped ReadFailed
-IsOutcomeAt (ends.Refused fault) any state outcome = outcome ≡ TermRefused fault
-IsOutcomeAt ends.Long any state outcome = outcome ≡ InputLong
-IsOutcomeAt ends.Whole true state outcome = outcome ≡ Questions
-IsOutcomeAt ends.Whole false state outcome = outcome ≡ Answered
+abbrev pub IsOutcomeAt : SourceState → EndRead → Bool → Outcome → Type 0
+IsOutcomeAt states.Failed end any outcome = outcome ≡ Stopped ReadFailed
+IsOutcomeAt state (ends.Refused fault) any outcome = outcome ≡ TermRefused fault
+IsOutcomeAt state ends.Long any outcome = outcome ≡ InputLong
+IsOutcomeAt state ends.Whole true outcome = outcome ≡ Questions
+IsOutcomeAt state ends.Whole false outcome = outcome ≡ Answered

@@ -98,7 +98,7 @@ fn answer_next<I: Source, O: Sink>(
 
 /// The outcome of an input that ends so.
 fn outcome_at(end: End, any_question: bool, state: SourceState) -> Outcome
-    ensures { IsOutcomeAt end any_question state result }
+    ensures { IsOutcomeAt state end any_question result }
 {
     match (state, end) {
         (SourceState::Failed, _) => Outcome::Stopped(Stop::ReadFailed),
