@@ -30,3 +30,4 @@ mod Counting
 mod Leaving
 mod Exact
 mod Ended
+mod Begun

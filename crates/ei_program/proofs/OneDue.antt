@@ -33,7 +33,7 @@ use Rattle.ei_program.proofs.Phases.{then_one}
 
 -- ---- the words and the files
 
-words_one : (given : Given) → HasOne (HasWords given)
+pub words_one : (given : Given) → HasOne (HasWords given)
 words_one given (Ok r) (Ok s) p q =
     let (task, file, terms) = one_asked given.words r.task s.task r.file s.file r.terms s.terms p q in
     let same : r ≡ s = λ i. record { task = task i; file = file i; terms = terms i } in
@@ -48,7 +48,7 @@ file_one given name (Ok bytes) (Err told) p q = let e : Some bytes ≡ None = sy
 file_one given name (Err told) (Ok bytes) p q = let e : Some bytes ≡ None = sym q ∙ p.0 in cc (e)
 file_one given name (Err told) (Err other) p q = ap (λ t. Err t) (p.1 ∙ sym q.1)
 
-terms_one : (given : Given) (source : Option (List ℕ)) → HasOne (HasTerms given source)
+pub terms_one : (given : Given) (source : Option (List ℕ)) → HasOne (HasTerms given source)
 terms_one given (Some name) = file_one given name
 terms_one given None = λ r s p q. p ∙ sym q
 
@@ -107,11 +107,11 @@ answers_one settings d distinct source text r s p q =
 -- ---- the run
 
 module _ (given : Given) where
-  definitions_one : (command : Command) → HasOne (HasDefinitions given command)
+  pub definitions_one : (command : Command) → HasOne (HasDefinitions given command)
   definitions_one command = then_one (HasFile given command.file) (Accepts command.task.syntax) (file_one given command.file) (λ bytes _. accepts_one command.task.syntax bytes)
 
   -- what a file that is accepted declares is declared once
-  defined_distinct : (command : Command) (d : Definitions) → HasDefinitions given command (Ok d) → HasDistinctNames d.names
+  pub defined_distinct : (command : Command) (d : Definitions) → HasDefinitions given command (Ok d) → HasDistinctNames d.names
   defined_distinct command d (inl (told, first, is)) = cc (is)
   defined_distinct command d (inr (bytes, first, accepts)) = given_distinct command.task.syntax bytes d accepts.0
 

@@ -6,6 +6,7 @@ mod answer;
 mod definitions;
 mod dots;
 mod gap;
+mod laws;
 mod line;
 mod loading;
 mod outcome;
@@ -23,6 +24,7 @@ mod telling;
 mod tests;
 mod top_call;
 
+pub use laws::one_thing_is_due;
 pub use ready::Ready;
 pub use settings::Settings;
 pub use status::Status;
