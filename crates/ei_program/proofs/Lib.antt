@@ -31,3 +31,4 @@ mod Leaving
 mod Exact
 mod Ended
 mod Begun
+mod NextTerms
