@@ -25,7 +25,8 @@ use Rattle.ei_program.specs.Lines.{SomeQuestion, AreLines, IsLine, ended, bytes_
 use Rattle.ei_program.specs.Outcomes.{Told, told_of}
 use Rattle.ei_program.specs.Done.{Done, IsLeft}
 use Rattle.ei_program.specs.Reading.{end_of, TermNext, Settles}
-use Rattle.ei_program.specs.Stepping.{Answers, DoesStep, BreaksOff, IsOutcomeAt}
+use Rattle.eq_ports.specs.Moves.{AppendsFront}
+use Rattle.ei_program.specs.Stepping.{Answers, IsOutcomeAt}
 use Rattle.ei_program.specs.Answering.{IsTold, rest_of, AnswersText, AnswersFirst, IsCutShort, TextLeft}
 use Rattle.ei_program.specs.Run.{LeavesOn}
 use Rattle.ei_program.proofs.Taken.{failed_or_not}
@@ -74,8 +75,8 @@ module _ (settings : Settings) (d : Definitions) (distinct : HasDistinctNames d.
 
     -- ---- a line that is broken off
 
-    pub broken_off : BreaksOff settings d old new left out_mid out_new taken → LeavesOn (TextLeft settings d input left (Stopped WriteFailed)) out_old out_new
-    broken_off (line, a, front, back, parts, appends) =
+    pub broken_off : (line : List ℕ) → Answers settings d old new line taken → AppendsFront out_mid out_new (ended line) → LeavesOn (TextLeft settings d input left (Stopped WriteFailed)) out_old out_new
+    broken_off line a (front, back, parts, appends) =
         let read = first_more settings d distinct before mid left old new out_old out_mid out_new any so_far more is limit a.term line a.next a.is in
         let fit = lines_fit settings d distinct before mid left old new out_old out_mid out_new any so_far more is limit a.term line a.next a.is in
         let first = record { terms = so_far.terms ++ a.term ∷ []; last = new.place; read = first_in (so_far.terms ++ a.term ∷ []) taken new.place left is.consumed read; fit = fit } in

@@ -1,15 +1,12 @@
 // The answering of the terms of an input.
-ghost use Rattle.std.specs.Prelude.{◌≡◌, ◌≢◌, ◌≤◌, ◌^◌, ℕ, List, [], Option, Some, IfOk, OnOk, OnErr, true};
-ghost use Rattle.std.specs.Io.KnownBytes.{Appends};
-ghost use Rattle.eq_ports.specs.Causes.{Rose, HasCause};
-ghost use Rattle.eq_ports.specs.Moves.{AppendsFront};
-ghost use Rattle.term_input.specs.declared.source_state.SourceState.TheVariants as states;
+ghost use Rattle.std.specs.Prelude.{◌≡◌, ◌≢◌, ◌≤◌, ◌^◌, ℕ, List, Option, Some};
+ghost use Rattle.eq_ports.specs.Causes.{Rose};
+ghost use Rattle.ei_program.specs.declared.stop.Stop.{Stop as WhyStopped};
 ghost use Rattle.ei_program.specs.Definitions.{definitions_of};
 ghost use Rattle.ei_program.specs.Loading.{IsReady};
-ghost use Rattle.ei_program.specs.Lines.{ended};
 ghost use Rattle.ei_program.specs.Outcomes.{CanBeTold};
-ghost use Rattle.ei_program.specs.Reading.{Goes, IsCounted};
-ghost use Rattle.ei_program.specs.Stepping.{IsStepOf, DoesStep, BreaksOff, IsOutcomeAt};
+ghost use Rattle.ei_program.specs.Reading.{IsCounted};
+ghost use Rattle.ei_program.specs.Stepping.{WritesText, StepLeft, IsOutcomeAt};
 ghost use Rattle.ei_program.specs.Answering.{TextLeft, FileLeft};
 ghost use Rattle.ei_program.specs.Run.{LeavesOn};
 
@@ -32,23 +29,24 @@ enum Step {
     Question,
     /// Nothing, since the input ends.
     End(End),
+    /// A term could not be read or answered, or its line not be written.
+    Stopped(Stop),
 }
 
-/// Writes a line.
-fn write_line<O: Sink>(line: &[u8], output: &mut O) -> Result<Step, Stop>
-    ensures step { IfOk result (IsStepOf line.now) }
-    ensures stop { OnErr result (result ≡ Result.Err Stop.WriteFailed) }
-    ensures whole { OnOk result (Appends (O.taken output.old) (O.taken output.new) line.now) }
-    ensures front { AppendsFront (O.taken output.old) (O.taken output.new) line.now }
-    ensures cause { HasCause (O.faults output.old) (O.faults output.new) result }
+/// Writes a line with its end.
+fn write_line<O: Sink>(line: &[u8], output: &mut O) -> Step
+    ensures written { WritesText line.now (O.taken output.old) (O.taken output.new) result }
+    ensures later { O.faults output.old ≤ O.faults output.new }
+    ensures write { result ≡ Step.Stopped Stop.WriteFailed → Rose (O.faults output.old) (O.faults output.new) }
+    ensures steady { result ≢ Step.Stopped Stop.WriteFailed → O.faults output.new ≡ O.faults output.old }
 {
     if write_whole(output, line).is_err() {
-        return Err(Stop::WriteFailed);
+        return Step::Stopped(Stop::WriteFailed);
     }
     if matches!(line, [b'?', ..]) {
-        Ok(Step::Question)
+        Step::Question
     } else {
-        Ok(Step::Answer)
+        Step::Answer
     }
 }
 
@@ -60,39 +58,31 @@ fn answer_next<I: Source, O: Sink>(
     stream: &mut Stream,
     input: &mut I,
     output: &mut O,
-) -> Result<Step, Stop>
+) -> Step
     requires ready { IsReady ready.old }
     requires within { stream.old.place ≤ stream.old.limit }
-    ensures ready { OnOk result (ready.new ≡ ready.old) }
-    ensures step { IfOk result (λ step. Goes (I.left input.old) (I.left input.new) stream.old stream.new
-        (DoesStep settings.now (definitions_of ready.old) stream.old stream.new (I.left input.new)
-        (O.taken output.old) (O.taken output.new) step)) }
-    ensures no_memory { result ≡ Result.Err Stop.NoMemory
-        → Appends (O.taken output.old) (O.taken output.new) [] }
-    ensures broken_off { result ≡ Result.Err Stop.WriteFailed
-        → Goes (I.left input.old) (I.left input.new) stream.old stream.new
-        (BreaksOff settings.now (definitions_of ready.old) stream.old stream.new (I.left input.new)
-        (O.taken output.old) (O.taken output.new)) }
-    ensures no_read { result ≢ Result.Err Stop.ReadFailed }
+    ensures same { ((stop : WhyStopped) → result ≢ Step.Stopped stop) → ready.new ≡ ready.old }
+    ensures left { StepLeft settings.now (definitions_of ready.old) stream.old stream.new
+        (I.left input.old) (I.left input.new) (O.taken output.old) (O.taken output.new) result }
     ensures count { IsCounted (I.faults input.old) (I.faults input.new) stream.old stream.new }
     ensures through { I.through input.new ≡ I.through input.old }
     ensures output_later { O.faults output.old ≤ O.faults output.new }
-    ensures write { result ≡ Result.Err Stop.WriteFailed → Rose (O.faults output.old) (O.faults output.new) }
-    ensures output_steady { result ≢ Result.Err Stop.WriteFailed → O.faults output.new ≡ O.faults output.old }
+    ensures write { result ≡ Step.Stopped Stop.WriteFailed → Rose (O.faults output.old) (O.faults output.new) }
+    ensures output_steady { result ≢ Step.Stopped Stop.WriteFailed → O.faults output.new ≡ O.faults output.old }
 {
     let mark = ready.symbols.mark();
     let Ok(next) = next_term(alloc, settings.syntax, &mut ready.symbols, stream, input) else {
-        return Err(Stop::NoMemory);
+        return Step::Stopped(Stop::NoMemory);
     };
     match next {
         Next::Term(term) => {
             let Ok(line) = line_of(alloc, ready, settings, term) else {
-                return Err(Stop::NoMemory);
+                return Step::Stopped(Stop::NoMemory);
             };
             ready.symbols.cut_to(mark);
             write_line(&line, output)
         }
-        Next::End(end) => Ok(Step::End(end)),
+        Next::End(end) => Step::End(end),
     }
 }
 
@@ -143,10 +133,10 @@ pub fn answer_input<I: Source, O: Sink>(
     let mut any_question = false;
     'terms: loop {
         match answer_next(alloc, ready, settings, &mut stream, input, output) {
-            Ok(Step::Answer) => {}
-            Ok(Step::Question) => any_question = true,
-            Ok(Step::End(end)) => return outcome_at(end, any_question, stream.state()),
-            Err(stop) => return Outcome::Stopped(stop),
+            Step::Answer => {}
+            Step::Question => any_question = true,
+            Step::End(end) => return outcome_at(end, any_question, stream.state()),
+            Step::Stopped(stop) => return Outcome::Stopped(stop),
         }
     }
 }

@@ -1,5 +1,5 @@
 // The top calls: a run, or the answering of terms, and what is told of it.
-ghost use Rattle.std.specs.Prelude.{◌≡◌, ◌≢◌, ◌⊎◌, ◌≤◌, ◌^◌, ℕ, List, Option, Some, map, string_bytes};
+ghost use Rattle.std.specs.Prelude.{◌≡◌, ◌≢◌, ◌⊎◌, ◌≤◌, ◌^◌, ℕ, List, Option, None, Some, map, string_bytes};
 ghost use Rattle.eq_ports.specs.Causes.{Rose};
 ghost use Rattle.term_lex.specs.declared.syntax.Syntax.{Syntax};
 ghost use Rattle.command_line.specs.Asked.{IsCommandLine};
@@ -38,7 +38,7 @@ pub fn answer_terms<I: Source, O: Sink, E: Sink>(
 
     // Where no fault count rose and memory was found, all terms are answered, up to the end of the input's reading.
     ensures exact { (bytes : List ℕ) → I.left input.old ≡ Some bytes
-        → (due : Done) → AnswersText settings.now (definitions_of ready.old) Option.None bytes due
+        → (due : Done) → AnswersText settings.now (definitions_of ready.old) None bytes due
         → (¬ Rose (I.faults input.old) (I.faults input.new))
         → (¬ Rose (O.faults output.old) (O.faults output.new))
         → (¬ Rose (E.faults errors.old) (E.faults errors.new))
