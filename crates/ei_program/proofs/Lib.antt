@@ -32,3 +32,4 @@ mod Exact
 mod Ended
 mod Begun
 mod NextTerms
+mod Made

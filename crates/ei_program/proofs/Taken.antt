@@ -21,15 +21,15 @@ use Rattle.term_input.proofs.Windows.{next_past_limit, next_of_window}
 use Rattle.ei_program.specs.declared.reading.End.{End}
 use Rattle.ei_program.specs.Reading.{end_of, readable, window_of, MayChange, EndsSo, Goes, IsCounted, TermNext, window}
 
+none_taken : {A : Type 0} (k : ℕ) → [] ≡ take {A = A} k []
+none_taken zero = refl
+none_taken (suc k) = refl
+
 -- the front of a text, and what is behind a place of it
 pub drop_take : {A : Type 0} (n m : ℕ) (xs : List A) → drop n (take m xs) ≡ take (m - n) (drop n xs)
 drop_take zero m xs = ap (λ k. take k xs) (omega arith)
 drop_take (suc n) zero xs = ap (λ k. take k (drop (suc n) xs)) (omega arith)
-drop_take (suc n) (suc m) [] = none (suc m - suc n)
-  where
-    none : (k : ℕ) → [] ≡ take {A = A} k []
-    none zero = refl
-    none (suc k) = refl
+drop_take (suc n) (suc m) [] = none_taken (suc m - suc n)
 drop_take (suc n) (suc m) (x ∷ xs) = drop_take n m xs ∙ ap (λ k. take k (drop n xs)) (omega arith)
 
 module _ (syntax : Syntax) (names : Table) (before left : Option (List ℕ)) (taken : List ℕ) (held : Held) (is : IsTaken before left taken held) where

@@ -13,7 +13,8 @@ use Rattle.ei_program.specs.Outcomes.{Told, told_of}
 
 -- the file has a fault, which is told
 abbrev pub IsRefused : Syntax → List ℕ → Told → Type 0
-IsRefused syntax file told = (fault : Fault) × RefusesFile syntax file fault × (told ≡ told_of (FileRefused fault))
+IsRefused syntax file told =
+    (fault : Fault) × RefusesFile syntax file fault × (told ≡ told_of (FileRefused fault))
 
 -- the equations break restrictions, which is told
 pub record IsBroken (syntax : Syntax) (file : List ℕ) (told : Told) : Type 0 where

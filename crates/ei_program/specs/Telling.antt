@@ -35,7 +35,8 @@ pub record HasOutcome (Left : Outcome → List ℕ → Type 0) (out_old out_new 
   pub told : IsToldOn (told_of outcome) err_old err_new status
 
 -- memory ran out, or all of this was done: what is left of the input, what is written, and what is told
-abbrev pub ComesTo : List ℕ → Done → (left out_old out_new err_old err_new : Option (List ℕ)) → Status → Type 0
+abbrev pub ComesTo : List ℕ → Done → (left out_old out_new err_old err_new : Option (List ℕ)) → Status
+    → Type 0
 ComesTo input done left out_old out_new err_old err_new status =
     (status ≡ statuses.NoMemory)
     ⊎ (IsLeft input done.rest left × Appends out_old out_new (bytes_of done.lines)

@@ -2,7 +2,8 @@
 ghost use Rattle.std.specs.Prelude.{◌≡◌, ◌<◌, ◌++◌, IfOk};
 ghost use Rattle.eq_base.specs.Tree.{size, nth_subtree};
 ghost use Rattle.symbol_table.specs.Table.{Keeps, names_of};
-ghost use Rattle.symbol_table.specs.Reading.{read, IsLiveTerm};
+ghost use Rattle.symbol_table.specs.Reading.{read, read_system, IsLiveTerm};
+ghost use Rattle.orthogonal_laws.specs.Past.{HasNoPast};
 ghost use Rattle.term_input.specs.Printing.{print};
 ghost use Rattle.ei_program.specs.Definitions.{definitions_of};
 ghost use Rattle.ei_program.specs.Loading.{IsReady};
@@ -44,7 +45,28 @@ fn printed(
     Ok(text)
 }
 
-/// The line of a normal form: its print, or its first part whose value is past the limits, or that it is too large.
+/// The line of a normal form without a part past the limits: its print, or that it is too large.
+fn line_of_clean(
+    alloc: Global,
+    ready: &Ready,
+    settings: &Settings,
+    form: &Flat,
+) -> Result<Vec<u8>, NoMemory>
+    requires live { IsLiveTerm ready.now.symbols form.now }
+    requires clean { HasNoPast (read_system ready.now.symbols ready.now.regular)
+        (read ready.now.symbols form.now) }
+    ensures { IfOk result (λ text. IsFormText settings.now (definitions_of ready.now)
+        (read ready.now.symbols form.now) text.items) }
+{
+    if form.len() as u64 > settings.most {
+        let text = b"? large\n".to_vec(alloc)?;
+        return Ok(text);
+    }
+    printed(alloc, ready, settings, b"", form, 0)
+}
+
+/// The line of a normal form: its first part whose value is past the limits, or else its print, or that it is too
+/// large.
 fn line_of_form(
     alloc: Global,
     ready: &Ready,
@@ -56,14 +78,10 @@ fn line_of_form(
     ensures { IfOk result (λ text. IsFormText settings.now (definitions_of ready.now)
         (read ready.now.symbols form.now) text.items) }
 {
-    if let Some(node) = first_past(&ready.regular, &ready.symbols, form) {
-        return printed(alloc, ready, settings, b"? past ", form, node);
+    match first_past(&ready.regular, &ready.symbols, form) {
+        Some(node) => printed(alloc, ready, settings, b"? past ", form, node),
+        None => line_of_clean(alloc, ready, settings, form),
     }
-    if form.len() as u64 > settings.most {
-        let text = b"? large\n".to_vec(alloc)?;
-        return Ok(text);
-    }
-    printed(alloc, ready, settings, b"", form, 0)
 }
 
 /// The line that answers a term, with its end.

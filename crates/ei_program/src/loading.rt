@@ -56,7 +56,8 @@ fn take_file<F: Files>(alloc: Global, files: &mut F, name: &str) -> Result<Vec<u
 
 /// The equations, where they break no restriction.
 fn admit(alloc: Global, equations: Equations) -> Result<Ready, Outcome>
-    requires defined { (syntax : Notation) × (file : List ℕ) × Defines syntax file (definitions_in equations) }
+    requires defined { (syntax : Notation) × (file : List ℕ)
+        × Defines syntax file (definitions_in equations) }
     requires usable { AreUsable equations }
     ensures admitted { IsAdmitted equations result }
     ensures told { IfErr result CanBeTold }

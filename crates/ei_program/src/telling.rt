@@ -12,7 +12,8 @@ use std::alloc::Global;
 
 /// Writes a message to the errors: the status, or that they cannot be written.
 fn write_message<E: Sink>(message: &[u8], status: Status, errors: &mut E) -> Status
-    ensures written { IsWritten (record { status = status; message = message.now }) (E.taken errors.old) (E.taken errors.new) result }
+    ensures written { IsWritten (record { status = status; message = message.now })
+        (E.taken errors.old) (E.taken errors.new) result }
     ensures kept { result ≢ Status.WriteFailed → result ≡ status }
     ensures later { E.faults errors.old ≤ E.faults errors.new }
     ensures write { result ≡ Status.WriteFailed → status ≢ Status.WriteFailed

@@ -946,10 +946,3 @@ fn term_too_long(rt: HostRuntime) -> Result<(), Fail> {
     expect_wide(&rt, rt.alloc(), ("z. z", 16_777_215, "."), 6, "z\n", told)?;
     Ok(())
 }
-
-#[test]
-fn term_unended(rt: HostRuntime) -> Result<(), Fail> {
-    let told = "ei: term refused: Unended at byte 16777219\n";
-    expect_wide(&rt, rt.alloc(), ("z. z", 16_777_215, ""), 6, "z\n", told)?;
-    Ok(())
-}

@@ -19,8 +19,8 @@ loop-byte-preserved c =
           let p = i.state text from parts before in
           let far : from + len + 1 ≡ from + (len + 1) = omega arith in
           elim c.if-inside.branch [
-            | then-inside w ↦ subst (λ n. Passed text n _) far (subst (Passed text _) (sym w.inside-is) (comment_passed text (from + len) here there (subst (Passed text (from + len)) w.if-inside.true p)))
-            | else-inside+then-byte-eq37 w ↦ subst (λ n. Passed text n _) far (subst (Passed text _) (sym w.inside-is) (sign_passed text (from + len) (there ∙ ap (λ n. Some n) w.if-byte-eq37.true) (subst (Passed text (from + len)) w.if-inside.false p)))
-            | else-inside+else-byte-eq37+else-not-is_blank w ↦ subst (λ n. Passed text n _) far (subst (Passed text _) (sym (w.inside-is ∙ w.if-inside.false)) (blank_passed text (from + len) here there w.if-byte-eq37.false (sym w.is_blank.ensures ∙ w.if-not-is_blank.false) (subst (Passed text (from + len)) w.if-inside.false p)))
+            | then-inside w ↦ subst (λ n. Passed text n c.if-inside.inside) far (subst (Passed text (from + len + 1)) (sym w.inside-is) (comment_passed text (from + len) here there (subst (Passed text (from + len)) w.if-inside.true p)))
+            | else-inside+then-byte-eq37 w ↦ subst (λ n. Passed text n c.if-inside.inside) far (subst (Passed text (from + len + 1)) (sym w.inside-is) (sign_passed text (from + len) (there ∙ ap (λ n. Some n) w.if-byte-eq37.true) (subst (Passed text (from + len)) w.if-inside.false p)))
+            | else-inside+else-byte-eq37+else-not-is_blank w ↦ subst (λ n. Passed text n c.if-inside.inside) far (subst (Passed text (from + len + 1)) (sym (w.inside-is ∙ w.if-inside.false)) (blank_passed text (from + len) here there w.if-byte-eq37.false (sym w.is_blank.ensures ∙ w.if-not-is_blank.false) (subst (Passed text (from + len)) w.if-inside.false p)))
           ];
     }
