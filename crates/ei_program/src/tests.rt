@@ -255,9 +255,7 @@ fn answers(rt: HostRuntime) -> Result<(), Fail> {
             "z\ns(z)\ns(s(z))\n",
         ),
         (LAZY, "car(cons(a, loop)).", 0, "a\n"),
-        (LAZY, "loop.", 3, "? spent 1000000\n"),
         (DEMANDED_ARGUMENT, "f(loop, b).", 0, "c\n"),
-        (DEMANDED_ARGUMENT, "f(a, loop).", 3, "? spent 1000000\n"),
         (
             SHARING,
             "d(d(d(w))).",
@@ -277,6 +275,19 @@ fn answers(rt: HostRuntime) -> Result<(), Fail> {
         };
         expect(&rt, rt.alloc(), &row)?;
     }
+    Ok(())
+}
+
+#[test]
+fn default_budget(rt: HostRuntime) -> Result<(), Fail> {
+    let row = Row {
+        file: LAZY,
+        input: "loop.",
+        status: 3,
+        output: "? spent 1000000\n",
+        ..ADDITION
+    };
+    expect(&rt, rt.alloc(), &row)?;
     Ok(())
 }
 
@@ -604,6 +615,13 @@ fn budgets(rt: HostRuntime) -> Result<(), Fail> {
             "? past add(170141183460469231731687303715884105727, 1)\n? large\n1\n",
         ),
         ("--replacements=0", DEMANDED_ARGUMENT, "a.", 0, "a\n"),
+        (
+            "--replacements=1000",
+            DEMANDED_ARGUMENT,
+            "f(a, loop).",
+            3,
+            "? spent 1000\n",
+        ),
         (
             "--replacements=0",
             DEMANDED_ARGUMENT,
