@@ -12,7 +12,7 @@ invariant-gap g l = record {
   from : l.initial.stream.place ≤ l.stream.place;
   within : l.stream.place ≤ l.stream.limit;
   gone : Goes (g.I.Source.left l.initial.input) (g.I.Source.left l.input) l.initial.stream l.stream
-    (λ taken. AreSkipped l.in_comment l.initial.stream l.stream taken × (l.stream.place ≤ length (take l.initial.stream.limit taken)));
+      (λ taken. AreSkipped l.in_comment l.initial.stream l.stream taken × (l.stream.place ≤ length (take l.initial.stream.limit taken)));
 }
 
 abbrev pub decreases-gap : goal.decreases-gap
