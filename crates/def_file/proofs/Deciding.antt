@@ -2,18 +2,19 @@
 use Rattle.std.proofs.Common.{ℕ, ◌≤◌, List, [], ◌∷◌, length, refl, inl, inr}
 use Rattle.std.specs.Prelude.{codes}
 use Rattle.term_lex.specs.declared.token.Token.{Token}
-use Rattle.term_lex.specs.declared.token.TokenKind.TheVariants.{Name, CloseRound, Colon}
+use Rattle.term_lex.specs.declared.token.TokenKind.TheVariants.{Name, Numeral, CloseRound, Semicolon, Colon, Dot}
 use Rattle.term_lex.specs.Lexemes.{Lexeme, IsViable, Plainly}
-use Rattle.term_lex.specs.Parts.{IsKind, IsWord, Nothing, One, Then, BeginsWith, Some, NextIs}
+use Rattle.term_lex.specs.Parts.{IsKind, IsWord, Nothing, One, Then, BeginsWith, Some, Led, NextIs}
 use Rattle.term_lex.proofs.Marks.{Kind, Word}
 use Rattle.term_lex.proofs.Answers.{nothing_by}
+use Rattle.term_lex.proofs.ListAnswers.{led_to}
 use Rattle.term_lex.proofs.PlainAnswers.{then_can, some_of_kind, of_kind}
 use Rattle.term_lex.proofs.Telling.{Plain, plain, no_closing}
 use Rattle.written_terms.specs.Notation.{Notation}
 use Rattle.written_terms.proofs.Notations.{IsLawful}
 use Rattle.def_file.specs.declared.error.FileError.{FileError}
-use Rattle.def_file.specs.Trees.{Declares, IncludesClasses, InClass, OneOf, Condition, Sides, Equates, IncludesOperations}
-use Rattle.def_file.specs.Grammar.{IsToken, IsTermFrom, IsInclude, IsNames, IsIncludeOf, IsDeclaration, IsSymbolItem, IsNameList, IsVariables, IsInClass, IsOneOf, IsRestriction, IsConditions, IsWhere, IsEquation, IsItem}
+use Rattle.def_file.specs.Trees.{Declares, IncludesClasses, ClassItem, InClass, OneOf, Condition, Sides, Equates, IncludesOperations}
+use Rattle.def_file.specs.Grammar.{IsToken, IsTermFrom, IsInclude, IsNames, IsIncludeOf, IsDeclaration, IsSymbolItem, IsMember, AreMoreClasses, AreListed, AreClasses, IsNameList, IsVariables, IsInClass, IsOneOf, IsRestriction, IsConditions, IsWhere, IsEquation, IsItem}
 use Rattle.def_file.specs.Reading.{IsReadAs, IsSyntaxRefused}
 use Rattle.def_file.proofs.WithoutTerms.{an_include_never}
 use Rattle.def_file.proofs.Readings.{lifted_refused, first_read, first_choice_refused, second_read, second_choice_refused}
@@ -39,6 +40,58 @@ module _ (text : List ℕ) (at : ℕ) where
 
   pub symbol_item_declared_refused : (NextIs IsInclude text at → ⊥) → (error : FileError) → IsSyntaxRefused Plain (Some IsDeclaration) text at error → IsSyntaxRefused Plain (Some IsSymbolItem) text at error
   symbol_item_declared_refused never error r = second_choice_refused plain IsInclude (Some IsIncludeOf) (Some IsDeclaration) Rules.include_begun Rules.symbol_item_to Rules.symbol_item_from text at include_stays (Rules.include_part.some, inl Rules.include_part.some_is) never error r
+
+  -- a member: a name, or a numeral
+  module _ (next : NextIs (IsKind Name) text at) where
+    name_can : (x : Lexeme) → IsKind Name x → IsViable (Some (IsToken Name)) (x ∷ [])
+    name_can x k = ([], Rules.token_to (x ∷ []) (x, refl, k))
+
+    pub member_name : (t : Token) (end : ℕ) → IsReadAs (Some (IsToken Name)) (IsToken Name t) text at end → IsReadAs (Some IsMember) (IsMember t) text at end
+    member_name t end r = first_read (IsKind Name) (Some (IsToken Name)) (Some (IsToken Numeral)) Rules.name_begun Rules.member_to Rules.member_from text at name_can next (λ xs s. inl s) r
+
+    pub member_name_refused : (error : FileError) → IsSyntaxRefused Plain (Some (IsToken Name)) text at error → IsSyntaxRefused Plain (Some IsMember) text at error
+    member_name_refused error r = first_choice_refused plain (IsKind Name) (Some (IsToken Name)) (Some (IsToken Numeral)) Rules.name_begun Rules.member_to Rules.member_from text at name_can next error r
+
+  module _ (never : NextIs (IsKind Name) text at → ⊥) where
+    pub member_numeral : (t : Token) (end : ℕ) → IsReadAs (Some (IsToken Numeral)) (IsToken Numeral t) text at end → IsReadAs (Some IsMember) (IsMember t) text at end
+    member_numeral t end r = second_read (IsKind Name) (Some (IsToken Name)) (Some (IsToken Numeral)) Rules.name_begun Rules.member_to Rules.member_from text at ((Rules.token_part Name).some, inl (Rules.token_part Name).some_is) never (λ xs other s. inr s) r
+
+    pub member_numeral_refused : (error : FileError) → IsSyntaxRefused Plain (Some (IsToken Numeral)) text at error → IsSyntaxRefused Plain (Some IsMember) text at error
+    member_numeral_refused error r = second_choice_refused plain (IsKind Name) (Some (IsToken Name)) (Some (IsToken Numeral)) Rules.name_begun Rules.member_to Rules.member_from text at (no_closing (Kind Name) (λ x k. k) refl) ((Rules.token_part Name).some, inl (Rules.token_part Name).some_is) never error r
+
+  -- behind the first class: a semicolon and the others, or the dot
+  module _ (next : NextIs (IsKind Semicolon) text at) where
+    semicolon_can : (x : Lexeme) → IsKind Semicolon x → IsViable (Some (Led (IsKind Semicolon) Rules.ClassItems)) (x ∷ [])
+    semicolon_can x k = let v : IsViable (Then (One (IsKind Semicolon)) (Some Rules.ClassItems)) (x ∷ []) = then_can Rules.class_items_part.some Rules.class_items_part.some_is x k in (v.0, led_to _ v.1)
+
+    pub more_classes_next : (cs : List ClassItem) (end : ℕ) → IsReadAs (Some (Led (IsKind Semicolon) Rules.ClassItems)) (Led (IsKind Semicolon) Rules.ClassItems cs) text at end → IsReadAs (Some AreMoreClasses) (AreMoreClasses cs) text at end
+    more_classes_next cs end r = first_read (IsKind Semicolon) (Some (Led (IsKind Semicolon) Rules.ClassItems)) (One (IsKind Dot)) Rules.next_classes_begun Rules.more_classes_to Rules.more_classes_from text at semicolon_can next (λ xs s. inl s) r
+
+    pub more_classes_next_refused : (error : FileError) → IsSyntaxRefused Plain (Some (Led (IsKind Semicolon) Rules.ClassItems)) text at error → IsSyntaxRefused Plain (Some AreMoreClasses) text at error
+    more_classes_next_refused error r = first_choice_refused plain (IsKind Semicolon) (Some (Led (IsKind Semicolon) Rules.ClassItems)) (One (IsKind Dot)) Rules.next_classes_begun Rules.more_classes_to Rules.more_classes_from text at semicolon_can next error r
+
+  module _ (never : NextIs (IsKind Semicolon) text at → ⊥) where
+    pub more_classes_end : (end : ℕ) → IsReadAs (One (IsKind Dot)) (One (IsKind Dot)) text at end → IsReadAs (Some AreMoreClasses) (AreMoreClasses []) text at end
+    more_classes_end end r = second_read (IsKind Semicolon) (Some (Led (IsKind Semicolon) Rules.ClassItems)) (One (IsKind Dot)) Rules.next_classes_begun Rules.more_classes_to Rules.more_classes_from text at (Rules.next_classes_part.some, inl Rules.next_classes_part.some_is) never (λ xs other s. inr (refl, s)) r
+
+    pub more_classes_end_refused : (error : FileError) → IsSyntaxRefused Plain (One (IsKind Dot)) text at error → IsSyntaxRefused Plain (Some AreMoreClasses) text at error
+    more_classes_end_refused error r = second_choice_refused plain (IsKind Semicolon) (Some (Led (IsKind Semicolon) Rules.ClassItems)) (One (IsKind Dot)) Rules.next_classes_begun Rules.more_classes_to Rules.more_classes_from text at (no_closing (Kind Semicolon) (λ x k. k) refl) (Rules.next_classes_part.some, inl Rules.next_classes_part.some_is) never error r
+
+  -- the section of classes, or none
+  module _ (next : NextIs (IsWord (codes "Classes")) text at) where
+    listed_can : (x : Lexeme) → IsWord (codes "Classes") x → IsViable (Some AreListed) (x ∷ [])
+    listed_can x w = let v : IsViable Rules.ListedParts (x ∷ []) = then_can Rules.listed_tail.some Rules.listed_tail.some_is x w in (v.0, Rules.listed_to _ v.1)
+
+    pub classes_some : (c : ClassItem) (cs : List ClassItem) (end : ℕ) → IsReadAs (Some AreListed) (AreListed (c, cs)) text at end → IsReadAs (Some AreClasses) (AreClasses (c ∷ cs)) text at end
+    classes_some c cs end r = first_read (IsWord (codes "Classes")) (Some AreListed) Nothing Rules.listed_begun Rules.classes_to Rules.classes_from text at listed_can next (λ xs s. s) r
+
+    pub classes_some_refused : (error : FileError) → IsSyntaxRefused Plain (Some AreListed) text at error → IsSyntaxRefused Plain (Some AreClasses) text at error
+    classes_some_refused error r = first_choice_refused plain (IsWord (codes "Classes")) (Some AreListed) Nothing Rules.listed_begun Rules.classes_to Rules.classes_from text at listed_can next error r
+
+  pub classes_none : (NextIs (IsWord (codes "Classes")) text at → ⊥) → at ≤ length text → IsReadAs (Some AreClasses) (AreClasses []) text at at
+  classes_none never within = second_read (IsWord (codes "Classes")) (Some AreListed) Nothing Rules.listed_begun Rules.classes_to Rules.classes_from text at ([], inr ((λ b. b), refl)) never (λ xs other s. s) nothing where
+    nothing : IsReadAs Nothing Nothing text at at
+    nothing = record { answer = nothing_by Plainly text at; form = ([], refl, refl); within = within }
 
   -- the variables: none, or some
   module _ (next : NextIs (IsKind Colon) text at) where

@@ -89,13 +89,15 @@ module _ (text : List ℕ) where
       omega (arith, few, last.0)
 
   pub file_few : {notation : Notation} → IsLawful notation → (file : File) (xs : List Lexeme) (end : ℕ) → Scans text 0 xs end → IsFile notation file xs → IsFew file
-  file_few {notation = notation} laws file xs end s (f1, b1, e1, w1, (f2, b2, e2, ss, (f3, b3, e3, w3, (f4, b4, e4, w4, (f5, b5, e5, vs, (f6, b6, e6, is, r)))))) =
+  file_few {notation = notation} laws file xs end s (f1, b1, e1, w1, (f2, b2, e2, ss, (f, b, e, cs, (f3, b3, e3, w3, (f4, b4, e4, w4, (f5, b5, e5, vs, (f6, b6, e6, is, r))))))) =
       let c1 = scans_split f1 b1 0 end (subst (λ ys. Scans text 0 ys end) e1 s) in
       let i1 = scans_within text 0 f1 c1.mid (omega arith) c1.first in
       let c2 = scans_split f2 b2 c1.mid end (subst (λ ys. Scans text c1.mid ys end) e2 c1.second) in
       let i2 = scans_within text c1.mid f2 c2.mid i1.1 c2.first in
-      let c3 = scans_split f3 b3 c2.mid end (subst (λ ys. Scans text c2.mid ys end) e3 c2.second) in
-      let i3 = scans_within text c2.mid f3 c3.mid i2.1 c3.first in
+      let c = scans_split f b c2.mid end (subst (λ ys. Scans text c2.mid ys end) e c2.second) in
+      let i = scans_within text c2.mid f c.mid i2.1 c.first in
+      let c3 = scans_split f3 b3 c.mid end (subst (λ ys. Scans text c.mid ys end) e3 c.second) in
+      let i3 = scans_within text c.mid f3 c3.mid i.1 c3.first in
       let c4 = scans_split f4 b4 c3.mid end (subst (λ ys. Scans text c3.mid ys end) e4 c3.second) in
       let i4 = scans_within text c3.mid f4 c4.mid i3.1 c4.first in
       let c5 = scans_split f5 b5 c4.mid end (subst (λ ys. Scans text c4.mid ys end) e5 c4.second) in

@@ -20,3 +20,6 @@ pub mod OneNaming
 pub mod OneFault
 pub mod OneAnswer
 pub mod FirstBytes
+pub mod MemberLists
+pub mod FilledClasses
+pub mod Saying

@@ -1,5 +1,5 @@
 -- A text says one thing: its definitions, or its first fault.
-use Rattle.std.proofs.Common.{◌≡◌, ℕ, ◌+◌, List, [], ◌∷◌, ◌++◌, refl, sym, ap, ◌∙◌, subst, Result, Ok, Err}
+use Rattle.std.proofs.Common.{◌≡◌, ℕ, ◌+◌, inl, inr, Contains, List, [], ◌∷◌, ◌++◌, refl, sym, ap, ◌∙◌, subst, Result, Ok, Err}
 use Rattle.eq_base.specs.Tree.{Tree, map_heads}
 use Rattle.eq_base.specs.Pattern.{PatternCell}
 use Rattle.eq_base.specs.Meeting.{class_number}
@@ -7,6 +7,8 @@ use Rattle.eq_base.specs.ReadHead.{ReadHead}
 use Rattle.term_lex.specs.declared.token.Token.{Token}
 use Rattle.term_lex.specs.declared.fault.Fault.{Fault}
 use Rattle.symbol_table.specs.Table.{HasDistinctNames}
+use Rattle.symbol_table.specs.Reading.{read_classes}
+use Rattle.def_file.proofs.Namings.{contains_at}
 use Rattle.written_terms.specs.Notation.{Notation}
 use Rattle.written_terms.proofs.Notations.{IsLawful}
 use Rattle.def_file.specs.declared.error.FileError.{FileError}
@@ -16,7 +18,7 @@ use Rattle.def_file.specs.Errors.{AnswersRight, AnswersAs}
 use Rattle.def_file.specs.Trees.{Restriction, InClass, OneOf, Condition, Sides, EquationItem, Equates, IncludesOperations, File}
 use Rattle.def_file.specs.Pairs.{AreRelated}
 use Rattle.def_file.specs.Names.{Known, places_of, token_bytes}
-use Rattle.def_file.specs.Definitions.{classed, NamesVariable, IsFirstIn, AreIn, MeansSide, MeanChoices, MeansQualifier, MeansEquation, MeansOperation, MeansItem, MeanItems, Says, IsDefinitions}
+use Rattle.def_file.specs.Definitions.{classed, NamesClass, NamesVariable, IsFirstIn, AreIn, MeansSide, MeanChoices, MeansQualifier, MeansEquation, MeansOperation, MeansItem, MeanItems, Says, IsDefinitions}
 use Rattle.def_file.proofs.OneNaming.{AreOnce, distinct_names, one_class, one_operation, pattern_one}
 use Rattle.def_file.proofs.OneFault.{one_known, one_file_fault, says_no_fault}
 
@@ -39,6 +41,17 @@ module _ {notation : Notation} (laws : IsLawful notation) (text : List ℕ) (kno
       → x ≡ y
   variable_one name x y is is' = once.variables (token_bytes text name) x y is is'
 
+  -- a name is that of one class
+  numbered_one : (name : List ℕ) (x y : ℕ) → NamesClass known.class_names name x → NamesClass known.class_names name y → x ≡ y
+  numbered_one name x y (inl (class, named, is)) (inl (class', named', is')) =
+      is ∙ ap class_number (one_class name class class' named named') ∙ sym is'
+  numbered_one name x y (inl (class, named, is)) (inr (place, there, is')) =
+      absurd (once.apart class (subst (Contains known.class_names) named (contains_at known.class_names place name there)))
+  numbered_one name x y (inr (place, there, is)) (inl (class, named, is')) =
+      absurd (once.apart class (subst (Contains known.class_names) named (contains_at known.class_names place name there)))
+  numbered_one name x y (inr (place, there, is)) (inr (place', there', is')) =
+      is ∙ ap (λ n. 4 + n) (once.class_names name place place' there there') ∙ sym is'
+
   first_one : (name : Token) (r : Restriction) (Rest : List (ℕ × ℕ) → Type 0)
       → ((us vs : List (ℕ × ℕ)) → Rest us → Rest vs → us ≡ vs)
       → (xs ys : List (ℕ × ℕ)) → IsFirstIn text known name r Rest xs → IsFirstIn text known name r Rest ys
@@ -46,10 +59,10 @@ module _ {notation : Notation} (laws : IsLawful notation) (text : List ℕ) (kno
   first_one name (InClass token) Rest same xs ys
       (x, class, rest, is, named, e, r) (y, class', rest', is', named', e', r') =
       let number = variable_one name x y is is' in
-      let class_is = one_class (token_bytes text token) class class' named named' in
+      let class_is = numbered_one (token_bytes text token) class class' named named' in
       let tail = same rest rest' r r' in
-      let whole : ◌≡◌ {A = List (ℕ × ℕ)} ((x, class_number class) ∷ rest) ((y, class_number class') ∷ rest') =
-      λ i. (number i, class_number (class_is i)) ∷ tail i in
+      let whole : ◌≡◌ {A = List (ℕ × ℕ)} ((x, class) ∷ rest) ((y, class') ∷ rest') =
+      λ i. (number i, class_is i) ∷ tail i in
       e ∙ whole ∙ sym e'
   first_one name (OneOf terms) Rest same xs ys r r' = same xs ys r r'
 
@@ -128,13 +141,15 @@ module _ {notation : Notation} (laws : IsLawful notation) (text : List ℕ) wher
   says_one one other s t =
       let same = one_known laws text t.file s.file t.known s.known t.reads s.reads t.names s.names in
       let names = s.declared ∙ ap (λ (k : Known). k.table) (sym same.1) ∙ sym t.declared in
+      let class_names = s.class_names ∙ ap (λ (k : Known). k.class_names) (sym same.1) ∙ sym t.class_names in
+      let classes = s.classes ∙ ap (λ (k : Known). read_classes k.table k.classes) (sym same.1) ∙ sym t.classes in
       let variables = s.variables ∙ ap (λ (k : Known). k.variables) (sym same.1) ∙ sym t.variables in
       let once = distinct_names laws text (places_of s.file) s.known s.names in
       let items = items_one laws text s.known once 1 s.file.items
       one.items other.items s.items
       (subst (λ k. MeanItems notation text k 1 s.file.items other.items) same.1
       (subst (λ (f : File). MeanItems notation text t.known 1 f.items other.items) same.0 t.items)) in
-      λ i. record { names = names i; variables = variables i; items = items i }
+      λ i. record { names = names i; class_names = class_names i; classes = classes i; variables = variables i; items = items i }
 
   -- two readings of a text are one
   pub one_definitions : (one other : Result ReadDefinitions Fault) → IsDefinitions notation text one

@@ -1,5 +1,5 @@
 -- A text is one file.
-use Rattle.std.proofs.Common.{◌≡◌, ℕ, Bool, true, false, List, [], ◌∷◌, refl, sym, ap, ◌∙◌, subst}
+use Rattle.std.proofs.Common.{inl, inr, ◌≡◌, ℕ, Bool, true, false, List, [], ◌∷◌, refl, sym, ap, ◌∙◌, subst}
 use Rattle.std.specs.Prelude.{codes}
 use Rattle.term_lex.specs.declared.token.Token.{Token}
 use Rattle.term_lex.specs.declared.token.TokenKind.{TokenKind}
@@ -12,8 +12,8 @@ use Rattle.term_lex.proofs.PlainAnswers.{not_begun, kind_part, word_part, some_o
 use Rattle.term_lex.proofs.ListAnswers.{same_part}
 use Rattle.term_lex.proofs.OneTree.{OneTree, separated_one, closed_one}
 use Rattle.term_lex.proofs.Readings.{one_reading}
-use Rattle.def_file.specs.Trees.{SymbolItem, Declares, IncludesClasses, Restriction, InClass, OneOf, Condition, EquationItem, Equates, IncludesOperations, File}
-use Rattle.def_file.specs.Grammar.{IsToken, IsWordAs, IsTermFrom, IsNames, IsIncludeOf, IsDeclaration, IsSymbolItem, IsNameList, IsVariables, IsTerms, IsInClass, IsOneOf, IsRestriction, IsCondition, IsConditions, IsWhere, IsEquation, IsItem, IsFile, IsSomeFile, IsFileText}
+use Rattle.def_file.specs.Trees.{SymbolItem, Declares, IncludesClasses, ClassItem, Restriction, InClass, OneOf, Condition, EquationItem, Equates, IncludesOperations, File}
+use Rattle.def_file.specs.Grammar.{IsToken, IsWordAs, IsTermFrom, IsNames, IsIncludeOf, IsDeclaration, IsSymbolItem, IsMember, AreMembers, IsClassItem, AreMoreClasses, AreListed, AreClasses, IsNameList, IsVariables, IsTerms, IsInClass, IsOneOf, IsRestriction, IsCondition, IsConditions, IsWhere, IsEquation, IsItem, IsFile, IsSomeFile, IsFileText}
 use Rattle.written_terms.specs.Notation.{Notation}
 use Rattle.written_terms.proofs.Notations.{term_first, term_more, IsLawful}
 use Rattle.def_file.proofs.Rules
@@ -87,6 +87,64 @@ symbol_item_one (IncludesClasses t ns) (IncludesClasses u ms) xs s r = let same 
 
 symbols_one : OneTree (Closed (IsKind Semicolon) (IsKind Dot) IsSymbolItem)
 symbols_one vs ws xs s t = closed_one (IsKind Semicolon) (IsKind Dot) IsSymbolItem (Kind Semicolon) (Kind Dot) (λ x k. k) (λ x k. k) (some_of_kind Semicolon) (of_kind Semicolon) (some_of_kind Dot) (of_kind Dot) Rules.symbol_item_part refl refl symbol_item_one vs ws xs s t
+
+-- ---- classes
+
+member_one : OneTree IsMember
+member_one t u xs (inl s) (inl s') = token_one Name t u xs s s'
+member_one t u xs (inl s) (inr s') = absurd (not_begun (Kind Name) (λ x k. k) (Rules.token_part Numeral) refl xs (u, s') (Rules.name_begun xs (t, s)))
+member_one t u xs (inr s) (inl s') = absurd (not_begun (Kind Name) (λ x k. k) (Rules.token_part Numeral) refl xs (t, s) (Rules.name_begun xs (u, s')))
+member_one t u xs (inr s) (inr s') = token_one Numeral t u xs s s'
+
+members_one : OneTree AreMembers
+members_one vs ws xs s t = separated_one (IsKind Comma) IsMember (Kind Comma) (λ x k. k) (some_of_kind Comma) (of_kind Comma) Rules.member_part refl member_one vs ws xs s t
+
+abbrev ColonMembers : List Token → List Lexeme → Type 0
+ColonMembers ms xs = Then (One (IsKind Colon)) (AreMembers ms) xs
+
+colon_members_one : OneTree ColonMembers
+colon_members_one vs ws xs s t = back_one (kind_part Colon) Rules.members_part refl AreMembers (some_of AreMembers) members_one vs ws xs s t
+
+class_item_one : OneTree IsClassItem
+class_item_one c d xs s t =
+    let same = both_one (Rules.token_part Name) (then_part (kind_part Colon) Rules.members_part refl) refl (IsToken Name) ColonMembers (some_of (IsToken Name)) parts (token_one Name) colon_members_one c.name d.name c.members d.members xs s t in
+    λ i. record { name = same.0 i; members = same.1 i }
+  where
+    parts : (ms : List Token) (xs : List Lexeme) → ColonMembers ms xs → Then (One (IsKind Colon)) (Some AreMembers) xs
+    parts ms xs (f, b, e, c, t) = (f, b, e, c, (ms, t))
+
+class_items_one : OneTree Rules.ClassItems
+class_items_one vs ws xs s t = closed_one (IsKind Semicolon) (IsKind Dot) IsClassItem (Kind Semicolon) (Kind Dot) (λ x k. k) (λ x k. k) (some_of_kind Semicolon) (of_kind Semicolon) (some_of_kind Dot) (of_kind Dot) Rules.class_item_part refl refl class_item_one vs ws xs s t
+
+more_classes_one : OneTree AreMoreClasses
+more_classes_one cs ds xs (inl s) (inl t) = back_one (kind_part Semicolon) Rules.class_items_part refl Rules.ClassItems (some_of Rules.ClassItems) class_items_one cs ds xs s t
+more_classes_one cs ds xs (inl s) (inr t) = absurd (not_begun (Kind Semicolon) (λ x k. k) (kind_part Dot) refl xs t.1 (Rules.next_classes_begun xs (cs, s)))
+more_classes_one cs ds xs (inr s) (inl t) = absurd (not_begun (Kind Semicolon) (λ x k. k) (kind_part Dot) refl xs s.1 (Rules.next_classes_begun xs (ds, t)))
+more_classes_one cs ds xs (inr s) (inr t) = s.0 ∙ sym t.0
+
+abbrev FirstAndMore : ClassItem × List ClassItem → List Lexeme → Type 0
+FirstAndMore r xs = Then (IsClassItem r.0) (AreMoreClasses r.1) xs
+
+first_and_more_one : OneTree FirstAndMore
+first_and_more_one r q xs s t =
+    let same = both_one Rules.class_item_part Rules.more_classes_part refl IsClassItem AreMoreClasses (some_of IsClassItem) (some_of AreMoreClasses) class_item_one more_classes_one r.0 q.0 r.1 q.1 xs s t in
+    same_pair r q same.0 same.1
+
+listed_one : OneTree AreListed
+listed_one r q xs s t =
+    back_one (word_part (codes "Classes")) Rules.listed_tail refl FirstAndMore parts first_and_more_one r q xs s t
+  where
+    parts : (r : ClassItem × List ClassItem) (xs : List Lexeme) → FirstAndMore r xs → Then (Some IsClassItem) (Some AreMoreClasses) xs
+    parts r xs (f, b, e, c, m) = (f, b, e, (r.0, c), (r.1, m))
+
+no_section : (c : ClassItem) (cs : List ClassItem) (xs : List Lexeme) → xs ≡ [] → AreListed (c, cs) xs → ⊥
+no_section c cs xs none s = subst (BeginsWith (IsWord (codes "Classes"))) none (Rules.listed_begun xs ((c, cs), s))
+
+classes_one : OneTree AreClasses
+classes_one [] [] xs s t = refl
+classes_one [] (d ∷ ds) xs s t = absurd (no_section d ds xs s t)
+classes_one (c ∷ cs) [] xs s t = absurd (no_section c cs xs t s)
+classes_one (c ∷ cs) (d ∷ ds) xs s t = ap (λ (r : ClassItem × List ClassItem). r.0 ∷ r.1) (listed_one (c, cs) (d, ds) xs s t)
 
 -- ---- variables
 
@@ -268,21 +326,36 @@ module _ {notation : Notation} (laws : IsLawful notation) where
   for_one : OneTree ForEquations
   for_one r q xs s t = back_one (word_part (codes "For")) (Rules.from_all laws) refl AllEquations all_parts all_one r q xs s t
 
-  abbrev Sections : List SymbolItem × (List Token × List EquationItem) → List Lexeme → Type 0
-  Sections r xs = Then (Closed (IsKind Semicolon) (IsKind Dot) IsSymbolItem r.0) (ForEquations r.1) xs
+  abbrev ClassSections : List ClassItem × (List Token × List EquationItem) → List Lexeme → Type 0
+  ClassSections r xs = Then (AreClasses r.0) (ForEquations r.1) xs
 
-  sections_parts : (r : List SymbolItem × (List Token × List EquationItem)) (xs : List Lexeme) → Sections r xs → Rules.FromSymbolItems laws xs
-  sections_parts r xs (f, b, e, s, t) = (f, b, e, (r.0, s), for_parts r.1 b t)
+  class_sections_parts : (r : List ClassItem × (List Token × List EquationItem)) (xs : List Lexeme) → ClassSections r xs → Rules.FromClasses laws xs
+  class_sections_parts r xs (f, b, e, s, t) = (f, b, e, (r.0, s), for_parts r.1 b t)
+
+  class_sections_one : OneTree ClassSections
+  class_sections_one r q xs s t =
+      let same = both_one Rules.classes_part (Rules.from_for laws) refl AreClasses ForEquations (some_of AreClasses) for_parts classes_one for_one r.0 q.0 r.1 q.1 xs s t in
+      same_pair r q same.0 same.1
+
+  -- the symbols, the classes, the variables and the items
+  abbrev Parts : Type 0
+  Parts = List SymbolItem × (List ClassItem × (List Token × List EquationItem))
+
+  abbrev Sections : Parts → List Lexeme → Type 0
+  Sections r xs = Then (Closed (IsKind Semicolon) (IsKind Dot) IsSymbolItem r.0) (ClassSections r.1) xs
+
+  sections_parts : (r : Parts) (xs : List Lexeme) → Sections r xs → Rules.FromSymbolItems laws xs
+  sections_parts r xs (f, b, e, s, t) = (f, b, e, (r.0, s), class_sections_parts r.1 b t)
 
   sections_one : OneTree Sections
   sections_one r q xs s t =
-      let same = both_one Rules.symbols_part (Rules.from_for laws) refl (Closed (IsKind Semicolon) (IsKind Dot) IsSymbolItem) ForEquations (some_of (Closed (IsKind Semicolon) (IsKind Dot) IsSymbolItem)) for_parts symbols_one for_one r.0 q.0 r.1 q.1 xs s t in
+      let same = both_one Rules.symbols_part (Rules.from_classes laws) refl (Closed (IsKind Semicolon) (IsKind Dot) IsSymbolItem) ClassSections (some_of (Closed (IsKind Semicolon) (IsKind Dot) IsSymbolItem)) class_sections_parts symbols_one class_sections_one r.0 q.0 r.1 q.1 xs s t in
       same_pair r q same.0 same.1
 
   pub file_tree_one : OneTree (IsFile notation)
   file_tree_one v w xs s t =
-      let same = back_one (word_part (codes "Symbols")) (Rules.from_symbol_items laws) refl Sections sections_parts sections_one (v.symbols, (v.variables, v.items)) (w.symbols, (w.variables, w.items)) xs s t in
-      λ i. record { symbols = (same i).0; variables = (same i).1.0; items = (same i).1.1 }
+      let same = back_one (word_part (codes "Symbols")) (Rules.from_symbol_items laws) refl Sections sections_parts sections_one (v.symbols, (v.classes, (v.variables, v.items))) (w.symbols, (w.classes, (w.variables, w.items))) xs s t in
+      λ i. record { symbols = (same i).0; classes = (same i).1.0; variables = (same i).1.1.0; items = (same i).1.1.1 }
 
   -- nothing goes on behind a file
   pub file_part : IsPart (Some (IsFile notation)) false (Word (codes "Symbols") ∷ []) []

@@ -1,5 +1,5 @@
 -- The tokens of a file stand in its text.
-use Rattle.std.proofs.Common.{◌≡◌, ℕ, ◌≤◌, List, [], ◌∷◌, ◌++◌, length, map, sym, subst, inl, inr, Ok, arith}
+use Rattle.std.proofs.Common.{◌≡◌, ℕ, ◌+◌, ◌≤◌, List, [], ◌∷◌, ◌++◌, length, map, sym, subst, inl, inr, Ok, arith}
 use Rattle.std.specs.Prelude.{codes}
 use Rattle.std.specs.List.{AllByRecursion, flat_map}
 use Rattle.eq_base.proofs.Lists.{all_both}
@@ -12,9 +12,9 @@ use Rattle.term_lex.specs.Parts.{IsKind, IsWord, Each, Led, Separated, Closed}
 use Rattle.term_lex.proofs.Tokens.{token_within}
 use Rattle.term_lex.proofs.LiteralTokens.{within_text}
 use Rattle.written_terms.specs.Notation.{Notation}
-use Rattle.def_file.specs.Trees.{SymbolItem, Declares, IncludesClasses, Restriction, InClass, OneOf, Condition, Sides, EquationItem, Equates, IncludesOperations, File}
-use Rattle.def_file.specs.Grammar.{IsToken, IsTermFrom, IsNames, IsIncludeOf, IsSymbolItem, IsVariables, IsRestriction, IsCondition, IsWhere, IsEquation, IsItem, IsFile}
-use Rattle.def_file.specs.Names.{Class, Variable, Term, Operation, symbol_places, restriction_places, condition_places, equation_places, item_places}
+use Rattle.def_file.specs.Trees.{SymbolItem, Declares, IncludesClasses, ClassItem, Restriction, InClass, OneOf, Condition, Sides, EquationItem, Equates, IncludesOperations, File}
+use Rattle.def_file.specs.Grammar.{IsToken, IsTermFrom, IsNames, IsIncludeOf, IsSymbolItem, IsMember, IsClassItem, AreClasses, IsVariables, IsRestriction, IsCondition, IsWhere, IsEquation, IsItem, IsFile}
+use Rattle.def_file.specs.Names.{Class, Member, Variable, Term, Operation, symbol_places, classes_places, listed_places, restriction_places, condition_places, equation_places, item_places}
 use Rattle.def_file.specs.Naming.{IsPlaced, ArePlaced}
 use Rattle.def_file.proofs.Namings.{all_split}
 
@@ -91,6 +91,37 @@ module _ (notation : Notation) (text : List ℕ) where
       (((token_placed Name name f (held_first xs f b e h) n).0, numeral), tt)
   symbol_item_placed (IncludesClasses include names) xs h i = classes_placed names (include_placed include names xs h i)
 
+  member_placed : (member : Token) (xs : List Lexeme) → Held xs → IsMember member xs → IsTokenOf text member
+  member_placed member xs h (inl s) = (token_placed Name member xs h s).0
+  member_placed member xs h (inr s) = (token_placed Numeral member xs h s).0
+
+  -- a class whose name and members stand in the text
+  abbrev ClassPlaced : ClassItem → Type 0
+  ClassPlaced c = IsTokenOf text c.name × AllByRecursion (IsTokenOf text) c.members
+
+  class_item_placed : (c : ClassItem) (xs : List Lexeme) → Held xs → IsClassItem c xs → ClassPlaced c
+  class_item_placed c xs h (f, b, e, n, (g, d, e', colon, ms)) =
+      let members = held_second b g d e' (held_second xs f b e h) in
+      ((token_placed Name c.name f (held_first xs f b e h) n).0, separated_placed IsMember (IsTokenOf text) member_placed (IsKind Comma) c.members d members ms)
+
+  class_list_placed : (cs : List ClassItem) (xs : List Lexeme) → Held xs → AreClasses cs xs → AllByRecursion ClassPlaced cs
+  class_list_placed [] xs h s = tt
+  class_list_placed (c ∷ cs) xs h (f, b, e, w, (g, d, e', i, inl (k, l, e'', semicolon, more))) =
+      let behind = held_second xs f b e h in
+      let rest = held_second d k l e'' (held_second b g d e' behind) in
+      (class_item_placed c g (held_first b g d e' behind) i, closed_placed IsClassItem ClassPlaced class_item_placed (IsKind Semicolon) (IsKind Dot) cs l rest more)
+  class_list_placed (c ∷ cs) xs h (f, b, e, w, (g, d, e', i, inr (none, dot))) =
+      (class_item_placed c g (held_first b g d e' (held_second xs f b e h)) i, subst (AllByRecursion ClassPlaced) (sym none) tt)
+
+  members_placed : (class : ℕ) (members : List Token) → AllByRecursion (IsTokenOf text) members → ArePlaced text (map (Member class) members)
+  members_placed class [] a = tt
+  members_placed class (m ∷ ms) (h, hs) = (h, members_placed class ms hs)
+
+  class_places_placed : (class : ℕ) (cs : List ClassItem) → AllByRecursion ClassPlaced cs → ArePlaced text (classes_places class cs)
+  class_places_placed class [] a = tt
+  class_places_placed class (c ∷ cs) ((n, ms), a) =
+      (n, all_both (IsPlaced text) (map (Member class) c.members) (classes_places (class + 1) cs) (members_placed class c.members ms) (class_places_placed (class + 1) cs a))
+
   restriction_placed : (r : Restriction) (xs : List Lexeme) → Held xs → IsRestriction notation r xs → ArePlaced text (restriction_places r)
   restriction_placed (InClass name) xs h (f, b, e, w, t) = ((token_placed Name name b (held_second xs f b e h) t).0, tt)
   restriction_placed (OneOf terms) xs h (f, b, e, w, (g, c, e', ts, end)) =
@@ -130,18 +161,19 @@ module _ (notation : Notation) (text : List ℕ) where
   -- the places of a file that is read stand in the text
   pub record FilePlaced (file : File) : Type 0 where
     pub symbols : ArePlaced text (flat_map symbol_places file.symbols)
-    pub variables : ArePlaced text (map Variable file.variables)
+    pub listed : ArePlaced text (listed_places file)
     pub items : ArePlaced text (flat_map item_places file.items)
 
   pub file_placed : (file : File) (xs : List Lexeme) (end : ℕ) → Scans text 0 xs end → IsFile notation file xs → FilePlaced file
-  file_placed file xs end scanned (f1, b1, e1, w1, (f2, b2, e2, ss, (f3, b3, e3, w3, (f4, b4, e4, w4, (f5, b5, e5, vs, (f6, b6, e6, is, e)))))) =
+  file_placed file xs end scanned (f1, b1, e1, w1, (f2, b2, e2, ss, (f, b, e', cs, (f3, b3, e3, w3, (f4, b4, e4, w4, (f5, b5, e5, vs, (f6, b6, e6, is, e))))))) =
       let h1 = held_second xs f1 b1 e1 (held 0 end xs (omega arith) scanned) in
       let h2 = held_second b1 f2 b2 e2 h1 in
-      let h3 = held_second b2 f3 b3 e3 h2 in
+      let hc = held_second b2 f b e' h2 in
+      let h3 = held_second b f3 b3 e3 hc in
       let h4 = held_second b3 f4 b4 e4 h3 in
       let h5 = held_second b4 f5 b5 e5 h4 in
       record {
         symbols = all_flat (IsPlaced text) symbol_places file.symbols (closed_placed IsSymbolItem (λ i. ArePlaced text (symbol_places i)) symbol_item_placed (IsKind Semicolon) (IsKind Dot) file.symbols f2 (held_first b1 f2 b2 e2 h1) ss);
-        variables = list_placed file.variables f5 (held_first b4 f5 b5 e5 h4) vs;
+        listed = all_both (IsPlaced text) (classes_places 4 file.classes) (map Variable file.variables) (class_places_placed 4 file.classes (class_list_placed file.classes f (held_first b2 f b e' h2) cs)) (list_placed file.variables f5 (held_first b4 f5 b5 e5 h4) vs);
         items = all_flat (IsPlaced text) item_places file.items (closed_placed (IsItem notation) (λ i. ArePlaced text (item_places i)) item_placed (IsKind Semicolon) (IsKind Dot) file.items f6 (held_first b5 f6 b6 e6 h5) is);
       }

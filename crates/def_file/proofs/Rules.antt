@@ -4,15 +4,15 @@ use Rattle.std.specs.Prelude.{codes}
 use Rattle.term_lex.specs.declared.token.TokenKind.{TokenKind}
 use Rattle.term_lex.specs.declared.token.TokenKind.TheVariants.{Name, Numeral, Comma, Semicolon, Colon, Dot, Equals, End}
 use Rattle.term_lex.specs.Lexemes.{Lexeme}
-use Rattle.term_lex.specs.Parts.{IsKind, IsWord, Nothing, One, Then, BeginsWith, Either, Some, Closed, Separated}
+use Rattle.term_lex.specs.Parts.{IsKind, IsWord, Nothing, One, Then, BeginsWith, Either, Some, Closed, Led, Separated}
 use Rattle.term_lex.proofs.Marks.{Kind, Word}
 use Rattle.term_lex.proofs.Parts.{IsPart, nothing_part, then_part, either_part, then_begun}
 use Rattle.term_lex.proofs.PlainAnswers.{not_begun, kind_part, word_part, some_of_kind, of_kind, some_word, of_word}
-use Rattle.term_lex.proofs.ListAnswers.{same_part, separated_part, list_part}
+use Rattle.term_lex.proofs.ListAnswers.{same_part, separated_part, list_part, led_part, led_from}
 use Rattle.written_terms.specs.Notation.{Notation, IsSomeTerm}
 use Rattle.written_terms.proofs.Notations.{term_first, term_more, IsLawful}
-use Rattle.def_file.specs.Trees.{Declares, IncludesClasses, InClass, OneOf, Equates, IncludesOperations}
-use Rattle.def_file.specs.Grammar.{IsToken, IsWordAs, IsTermFrom, IsInclude, IsNames, IsIncludeOf, IsDeclaration, IsSymbolItem, IsNameList, IsVariables, IsTerms, IsInClass, IsOneOf, IsRestriction, IsCondition, IsConditions, IsWhere, IsEquation, IsItem, IsFile}
+use Rattle.def_file.specs.Trees.{Declares, IncludesClasses, ClassItem, InClass, OneOf, Equates, IncludesOperations}
+use Rattle.def_file.specs.Grammar.{IsToken, IsWordAs, IsTermFrom, IsInclude, IsNames, IsIncludeOf, IsDeclaration, IsSymbolItem, IsMember, AreMembers, IsClassItem, AreMoreClasses, AreListed, AreClasses, IsNameList, IsVariables, IsTerms, IsInClass, IsOneOf, IsRestriction, IsCondition, IsConditions, IsWhere, IsEquation, IsItem, IsFile}
 
 -- a token of a kind
 pub token_to : {k : TokenKind} (xs : List Lexeme) → One (IsKind k) xs → Some (IsToken k) xs
@@ -117,6 +117,94 @@ variables_from xs (v ∷ vs, n) = inr (not_begun (Kind Colon) (λ x k. k) named_
 
 pub variables_part : IsPart (Some IsVariables) false (Kind Colon ∷ Kind Name ∷ []) []
 variables_part = same_part variables_to variables_from (either_part (one_begun (IsKind Colon)) (kind_part Colon) named_part)
+
+-- name | numeral
+pub name_begun : (xs : List Lexeme) → Some (IsToken Name) xs → BeginsWith (IsKind Name) xs
+name_begun xs s = one_begun (IsKind Name) xs (token_from xs s)
+
+pub member_to : (xs : List Lexeme) → Either (IsKind Name) (Some (IsToken Name)) (Some (IsToken Numeral)) xs → Some IsMember xs
+member_to xs (inl (t, s)) = (t, inl s)
+member_to xs (inr (other, (t, s))) = (t, inr s)
+
+pub member_from : (xs : List Lexeme) → Some IsMember xs → Either (IsKind Name) (Some (IsToken Name)) (Some (IsToken Numeral)) xs
+member_from xs (t, inl s) = inl (t, s)
+member_from xs (t, inr s) = inr (not_begun (Kind Name) (λ x k. k) (token_part Numeral) refl xs (t, s), (t, s))
+
+pub member_part : IsPart (Some IsMember) false (Kind Name ∷ Kind Numeral ∷ []) []
+member_part = same_part member_to member_from (either_part name_begun (token_part Name) (token_part Numeral))
+
+-- member { "," member }
+pub members_part : IsPart (Some AreMembers) false (Kind Name ∷ Kind Numeral ∷ []) (Kind Comma ∷ [])
+members_part = separated_part (IsKind Comma) IsMember (Kind Comma) (λ x t. t) (some_of_kind Comma) (of_kind Comma) member_part refl
+
+-- name ":" members
+abbrev pub ClassParts : List Lexeme → Type 0
+ClassParts xs = Then (Some (IsToken Name)) (Then (One (IsKind Colon)) (Some AreMembers)) xs
+
+pub class_item_to : (xs : List Lexeme) → ClassParts xs → Some IsClassItem xs
+class_item_to xs (f, b, e, (n, t), (g, c, e', colon, (ms, s))) = (record { name = n; members = ms }, (f, b, e, t, (g, c, e', colon, s)))
+
+pub class_item_from : (xs : List Lexeme) → Some IsClassItem xs → ClassParts xs
+class_item_from xs (i, (f, b, e, t, (g, c, e', colon, s))) = (f, b, e, (i.name, t), (g, c, e', colon, (i.members, s)))
+
+pub class_item_part : IsPart (Some IsClassItem) false (Kind Name ∷ []) (Kind Comma ∷ [])
+class_item_part = same_part class_item_to class_item_from (then_part (token_part Name) (then_part (kind_part Colon) members_part refl) refl)
+
+-- classes and their dot
+abbrev pub ClassItems : List ClassItem → List Lexeme → Type 0
+ClassItems cs xs = Closed (IsKind Semicolon) (IsKind Dot) IsClassItem cs xs
+
+pub class_items_part : IsPart (Some ClassItems) false (Kind Dot ∷ Kind Name ∷ []) []
+class_items_part = list_part (IsKind Semicolon) (IsKind Dot) IsClassItem (Kind Semicolon) (Kind Dot) (λ x t. t) (λ x t. t) (some_of_kind Semicolon) (of_kind Semicolon) (some_of_kind Dot) (of_kind Dot) class_item_part refl refl
+
+-- what stands behind the first class
+pub next_classes_part : IsPart (Some (Led (IsKind Semicolon) ClassItems)) false (Kind Semicolon ∷ []) []
+next_classes_part = led_part (IsKind Semicolon) ClassItems (Kind Semicolon) (λ x t. t) (some_of_kind Semicolon) (of_kind Semicolon) class_items_part refl
+
+pub next_classes_begun : (xs : List Lexeme) → Some (Led (IsKind Semicolon) ClassItems) xs → BeginsWith (IsKind Semicolon) xs
+next_classes_begun xs s = then_begun xs (led_from xs s)
+
+pub more_classes_to : (xs : List Lexeme) → Either (IsKind Semicolon) (Some (Led (IsKind Semicolon) ClassItems)) (One (IsKind Dot)) xs → Some AreMoreClasses xs
+more_classes_to xs (inl (cs, s)) = (cs, inl s)
+more_classes_to xs (inr (other, s)) = ([], inr (refl, s))
+
+pub more_classes_from : (xs : List Lexeme) → Some AreMoreClasses xs → Either (IsKind Semicolon) (Some (Led (IsKind Semicolon) ClassItems)) (One (IsKind Dot)) xs
+more_classes_from xs (cs, inl s) = inl (cs, s)
+more_classes_from xs (cs, inr (none, s)) = inr (not_begun (Kind Semicolon) (λ x k. k) (kind_part Dot) refl xs s, s)
+
+pub more_classes_part : IsPart (Some AreMoreClasses) false (Kind Semicolon ∷ Kind Dot ∷ []) []
+more_classes_part = same_part more_classes_to more_classes_from (either_part next_classes_begun next_classes_part (kind_part Dot))
+
+-- "Classes" class and the others
+abbrev pub ListedParts : List Lexeme → Type 0
+ListedParts xs = Then (One (IsWord (codes "Classes"))) (Then (Some IsClassItem) (Some AreMoreClasses)) xs
+
+pub listed_tail : IsPart (Then (Some IsClassItem) (Some AreMoreClasses)) false (Kind Name ∷ []) []
+listed_tail = then_part class_item_part more_classes_part refl
+
+pub listed_to : (xs : List Lexeme) → ListedParts xs → Some AreListed xs
+listed_to xs (f, b, e, w, (g, d, e', (c, s), (cs, t))) = ((c, cs), (f, b, e, w, (g, d, e', s, t)))
+
+pub listed_from : (xs : List Lexeme) → Some AreListed xs → ListedParts xs
+listed_from xs ((c, cs), (f, b, e, w, (g, d, e', s, t))) = (f, b, e, w, (g, d, e', (c, s), (cs, t)))
+
+pub listed_part : IsPart (Some AreListed) false (Word (codes "Classes") ∷ []) []
+listed_part = same_part listed_to listed_from (then_part (word_part (codes "Classes")) listed_tail refl)
+
+pub listed_begun : (xs : List Lexeme) → Some AreListed xs → BeginsWith (IsWord (codes "Classes")) xs
+listed_begun xs s = then_begun xs (listed_from xs s)
+
+-- [ "Classes" .. ]
+pub classes_to : (xs : List Lexeme) → Either (IsWord (codes "Classes")) (Some AreListed) Nothing xs → Some AreClasses xs
+classes_to xs (inl ((c, cs), s)) = (c ∷ cs, s)
+classes_to xs (inr none) = ([], none.1)
+
+pub classes_from : (xs : List Lexeme) → Some AreClasses xs → Either (IsWord (codes "Classes")) (Some AreListed) Nothing xs
+classes_from xs ([], none) = inr (λ b. subst (BeginsWith (IsWord (codes "Classes"))) none b, none)
+classes_from xs (c ∷ cs, s) = inl ((c, cs), s)
+
+pub classes_part : IsPart (Some AreClasses) true (Word (codes "Classes") ∷ []) (Word (codes "Classes") ∷ [])
+classes_part = same_part classes_to classes_from (either_part listed_begun listed_part nothing_part)
 
 -- "in" name
 abbrev pub InParts : List Lexeme → Type 0
@@ -268,8 +356,11 @@ module _ {notation : Notation} (laws : IsLawful notation) where
   abbrev pub FromFor : List Lexeme → Type 0
   FromFor xs = Then (One (IsWord (codes "For"))) FromAll xs
 
+  abbrev pub FromClasses : List Lexeme → Type 0
+  FromClasses xs = Then (Some AreClasses) FromFor xs
+
   abbrev pub FromSymbolItems : List Lexeme → Type 0
-  FromSymbolItems xs = Then (Some (Closed (IsKind Semicolon) (IsKind Dot) IsSymbolItem)) FromFor xs
+  FromSymbolItems xs = Then (Some (Closed (IsKind Semicolon) (IsKind Dot) IsSymbolItem)) FromClasses xs
 
   abbrev pub FromSymbols : List Lexeme → Type 0
   FromSymbols xs = Then (One (IsWord (codes "Symbols"))) FromSymbolItems xs
@@ -286,13 +377,16 @@ module _ {notation : Notation} (laws : IsLawful notation) where
   pub from_for : IsPart FromFor false (Word (codes "For") ∷ []) []
   from_for = then_part (word_part (codes "For")) from_all refl
 
+  pub from_classes : IsPart FromClasses false (Word (codes "Classes") ∷ Word (codes "For") ∷ []) []
+  from_classes = then_part classes_part from_for refl
+
   pub from_symbol_items : IsPart FromSymbolItems false (Kind Dot ∷ Word (codes "include") ∷ Kind Name ∷ []) []
-  from_symbol_items = then_part symbols_part from_for refl
+  from_symbol_items = then_part symbols_part from_classes refl
 
   pub file_to : (xs : List Lexeme) → FromSymbols xs → Some (IsFile notation) xs
-  file_to xs (f1, b1, e1, w, (f2, b2, e2, (ss, s), (f3, b3, e3, w3, (f4, b4, e4, w4, (f5, b5, e5, (vs, v), (f6, b6, e6, (is, i), end)))))) =
-      (record { symbols = ss; variables = vs; items = is }, (f1, b1, e1, w, (f2, b2, e2, s, (f3, b3, e3, w3, (f4, b4, e4, w4, (f5, b5, e5, v, (f6, b6, e6, i, end)))))))
+  file_to xs (f1, b1, e1, w, (f2, b2, e2, (ss, s), (f, b, e, (cs, c), (f3, b3, e3, w3, (f4, b4, e4, w4, (f5, b5, e5, (vs, v), (f6, b6, e6, (is, i), end))))))) =
+      (record { symbols = ss; classes = cs; variables = vs; items = is }, (f1, b1, e1, w, (f2, b2, e2, s, (f, b, e, c, (f3, b3, e3, w3, (f4, b4, e4, w4, (f5, b5, e5, v, (f6, b6, e6, i, end))))))))
 
   pub file_from : (xs : List Lexeme) → Some (IsFile notation) xs → FromSymbols xs
-  file_from xs (file, (f1, b1, e1, w, (f2, b2, e2, s, (f3, b3, e3, w3, (f4, b4, e4, w4, (f5, b5, e5, v, (f6, b6, e6, i, end))))))) =
-      (f1, b1, e1, w, (f2, b2, e2, (file.symbols, s), (f3, b3, e3, w3, (f4, b4, e4, w4, (f5, b5, e5, (file.variables, v), (f6, b6, e6, (file.items, i), end))))))
+  file_from xs (file, (f1, b1, e1, w, (f2, b2, e2, s, (f, b, e, c, (f3, b3, e3, w3, (f4, b4, e4, w4, (f5, b5, e5, v, (f6, b6, e6, i, end)))))))) =
+      (f1, b1, e1, w, (f2, b2, e2, (file.symbols, s), (f, b, e, (file.classes, c), (f3, b3, e3, w3, (f4, b4, e4, w4, (f5, b5, e5, (file.variables, v), (f6, b6, e6, (file.items, i), end)))))))

@@ -10,9 +10,9 @@ use Rattle.term_lex.specs.Lexemes.{Lexeme}
 use Rattle.term_lex.specs.Parts.{IsKind, IsWord, One, Then, Some, Each, Closed, Led, Separated}
 use Rattle.term_lex.proofs.Marks.{Kind, Word}
 use Rattle.term_lex.proofs.Telling.{NoClose, no_closing}
-use Rattle.def_file.specs.Trees.{SymbolItem, Declares, IncludesClasses}
-use Rattle.def_file.specs.Grammar.{IsToken, IsNames, IsIncludeOf, IsSymbolItem, IsVariables, IsInClass}
-use Rattle.def_file.proofs.Rules.{token_from, word_from}
+use Rattle.def_file.specs.Trees.{SymbolItem, Declares, IncludesClasses, ClassItem}
+use Rattle.def_file.specs.Grammar.{IsToken, IsNames, IsIncludeOf, IsSymbolItem, IsMember, AreMembers, IsClassItem, AreMoreClasses, AreClasses, IsVariables, IsInClass}
+use Rattle.def_file.proofs.Rules.{ClassItems, token_from, word_from}
 
 -- no closing bracket
 abbrev pub Stays : Lexeme → Type 0
@@ -62,6 +62,27 @@ symbol_item_never : (i : SymbolItem) → NeverCloses (IsSymbolItem i)
 symbol_item_never (Declares name arity) xs (other, s) = then_never (token_never Name refl name) (then_never (kind_never Colon refl) (token_never Numeral refl arity)) xs s
 symbol_item_never (IncludesClasses include names) xs s = include_never include names xs s
 
+member_never : (member : Token) → NeverCloses (IsMember member)
+member_never member xs (inl s) = token_never Name refl member xs s
+member_never member xs (inr s) = token_never Numeral refl member xs s
+
+members_never : (members : List Token) → NeverCloses (AreMembers members)
+members_never members xs s = separated_never (kind_never Comma refl) (kind_never Comma refl) member_never members xs s
+
+class_item_never : (c : ClassItem) → NeverCloses (IsClassItem c)
+class_item_never c xs s = then_never (token_never Name refl c.name) (then_never (kind_never Colon refl) (members_never c.members)) xs s
+
+class_items_never : (cs : List ClassItem) → NeverCloses (ClassItems cs)
+class_items_never cs xs s = closed_never (kind_never Semicolon refl) (kind_never Dot refl) class_item_never cs xs s
+
+more_classes_never : (cs : List ClassItem) → NeverCloses (AreMoreClasses cs)
+more_classes_never cs xs (inl s) = then_never (kind_never Semicolon refl) (class_items_never cs) xs s
+more_classes_never cs xs (inr s) = kind_never Dot refl xs s.1
+
+classes_never : (cs : List ClassItem) → NeverCloses (AreClasses cs)
+classes_never [] xs none = subst (AllByRecursion Stays) (sym none) tt
+classes_never (c ∷ cs) xs s = then_never (word_never (codes "Classes")) (then_never (class_item_never c) (more_classes_never cs)) xs s
+
 variables_never : (names : List Token) → NeverCloses (IsVariables names)
 variables_never [] xs c = kind_never Colon refl xs c
 variables_never (v ∷ vs) xs s = then_never (names_never (v ∷ vs)) (kind_never Colon refl) xs s
@@ -79,6 +100,9 @@ in_class_never xs (name, s) = then_never (word_never (codes "in")) (token_never 
 
 pub symbols_never : NeverCloses (Some (Closed (IsKind Semicolon) (IsKind Dot) IsSymbolItem))
 symbols_never xs (items, s) = closed_never (kind_never Semicolon refl) (kind_never Dot refl) symbol_item_never items xs s
+
+pub the_classes_never : NeverCloses (Some AreClasses)
+the_classes_never xs (cs, s) = classes_never cs xs s
 
 pub the_variables_never : NeverCloses (Some IsVariables)
 the_variables_never xs (names, s) = variables_never names xs s

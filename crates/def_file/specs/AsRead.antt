@@ -6,7 +6,7 @@ use Rattle.eq_base.specs.Pattern.{PatternCell}
 use Rattle.eq_base.specs.ReadHead.{ReadHead}
 use Rattle.eq_base.specs.declared.rules.Op.{Op}
 use Rattle.symbol_table.specs.Table.{Table, names_of}
-use Rattle.symbol_table.specs.Reading.{read_pattern, IsLivePattern}
+use Rattle.symbol_table.specs.Reading.{read_pattern, read_classes, IsLivePattern}
 use Rattle.def_file.specs.declared.definitions.Qualifier.{Qualifier}
 use Rattle.def_file.specs.declared.definitions.Written.{Written}
 use Rattle.def_file.specs.declared.definitions.Item.{Item}
@@ -37,9 +37,12 @@ pub record NumberedOf (H : Type 0) : Type 0 where
   pub item : ItemOf H
   pub number : ℕ
 
--- what is declared and included, the variables by their numbers, and the items in their order
+-- what is declared and included, the names of the classes and their members, the variables by their numbers, and the
+-- items in their order
 pub record DefinitionsOf (H : Type 0) : Type 0 where
   pub names : Table
+  pub class_names : List (List ℕ)
+  pub classes : List (List H)
   pub variables : List (List ℕ)
   pub items : List (NumberedOf H)
 
@@ -83,6 +86,8 @@ numbered_read table n = record { item = item_read table n.item; number = n.numbe
 abbrev pub definitions_read : Definitions → ReadDefinitions
 definitions_read d = record {
   names = names_of d.symbols;
+  class_names = d.class_names;
+  classes = read_classes d.symbols d.classes;
   variables = d.variables;
   items = map (numbered_read d.symbols) d.items;
 }

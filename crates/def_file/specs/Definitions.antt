@@ -12,6 +12,7 @@ use Rattle.term_lex.specs.declared.fault.Fault.{Fault}
 use Rattle.term_lex.specs.declared.fault.FaultKind.TheVariants.{FileLong}
 use Rattle.term_lex.specs.Lexemes.{IsFirstFault}
 use Rattle.symbol_table.specs.Table.{class_name}
+use Rattle.symbol_table.specs.Reading.{read_classes}
 use Rattle.written_terms.specs.Notation.{Notation}
 use Rattle.def_file.specs.AsRead.{ReadQualifier, ReadEquation, Equation, Class, ReadNumbered, ReadDefinitions}
 use Rattle.def_file.specs.Trees.{Restriction, InClass, OneOf, Condition, Sides, EquationItem, Equates, IncludesOperations, File}
@@ -38,6 +39,12 @@ abbrev pub classed : {H : Type 0} → List (ℕ × ℕ) → PatternCell H → Pa
 classed classes (variable x) = restricted_to x (class_of classes x)
 classed classes c = c
 
+-- the name is that of the class with the number: of a symbol class, or of one of the file, which have these names
+abbrev pub NamesClass : List (List ℕ) → List ℕ → ℕ → Type 0
+NamesClass class_names name number =
+    ((class : SymbolClass) × (name ≡ class_name class) × (number ≡ class_number class))
+    ⊎ ((place : ℕ) × (slice_get class_names place ≡ Some name) × (number ≡ 4 + place))
+
 module _ (text : List ℕ) (known : Known) where
   -- the token is the name of the variable with the number
   abbrev pub NamesVariable : Token → ℕ → Type 0
@@ -46,9 +53,9 @@ module _ (text : List ℕ) (known : Known) where
   -- the variable comes first where it is in a class, each with the number of the class; Rest says what comes then
   abbrev pub IsFirstIn : Token → Restriction → (List (ℕ × ℕ) → Type 0) → List (ℕ × ℕ) → Type 0
   IsFirstIn name (InClass class_token) Rest classes =
-      (x : ℕ) × (class : SymbolClass) × (rest : List (ℕ × ℕ)) × NamesVariable name x
-      × (token_bytes text class_token ≡ class_name class)
-      × (classes ≡ (x, class_number class) ∷ rest) × Rest rest
+      (x : ℕ) × (class : ℕ) × (rest : List (ℕ × ℕ)) × NamesVariable name x
+      × NamesClass known.class_names (token_bytes text class_token) class
+      × (classes ≡ (x, class) ∷ rest) × Rest rest
   IsFirstIn name (OneOf terms) Rest classes = Rest classes
 
   -- the variables that are in a class, each with the number of its class
@@ -121,6 +128,8 @@ pub record Says (notation : Notation) (text : List ℕ) (definitions : ReadDefin
   pub names : TakesAll notation text nothing_known (places_of file) known
   pub limits : KeepsAll notation text known (all_limits 0 (sides_of file))
   pub declared : definitions.names ≡ known.table
+  pub class_names : definitions.class_names ≡ known.class_names
+  pub classes : definitions.classes ≡ read_classes known.table known.classes
   pub variables : definitions.variables ≡ known.variables
   pub items : MeanItems notation text known 1 file.items definitions.items
 

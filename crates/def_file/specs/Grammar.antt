@@ -1,5 +1,5 @@
 -- The grammar of definitions files.
-use Rattle.std.specs.Prelude.{◌≡◌, ℕ, List, [], ◌∷◌, codes}
+use Rattle.std.specs.Prelude.{◌≡◌, ℕ, List, [], ◌∷◌, ◌⊎◌, codes}
 use Rattle.term_lex.specs.declared.token.Token.{Token}
 use Rattle.term_lex.specs.declared.token.TokenKind.{TokenKind}
 use Rattle.term_lex.specs.declared.token.TokenKind.TheVariants.{Name, Numeral, Comma, Semicolon, Colon, Dot, Equals, End}
@@ -8,7 +8,7 @@ use Rattle.term_lex.specs.Parts as parts
 use Rattle.term_lex.specs.Parts.{IsKind, IsWord, One, Then, BeginsWith, Separated, Closed}
 use Rattle.written_terms.specs.Notation as written
 use Rattle.written_terms.specs.Notation.{Notation}
-use Rattle.def_file.specs.Trees.{SymbolItem, Declares, IncludesClasses, Restriction, InClass, OneOf, Condition, Sides, EquationItem, Equates, IncludesOperations, File}
+use Rattle.def_file.specs.Trees.{SymbolItem, Declares, IncludesClasses, ClassItem, Restriction, InClass, OneOf, Condition, Sides, EquationItem, Equates, IncludesOperations, File}
 
 -- the token, which is of the kind
 abbrev pub IsToken : TokenKind → Token → List Lexeme → Type 0
@@ -38,6 +38,33 @@ IsDeclaration d xs = Then (IsToken Name d.0) (Then (One (IsKind Colon)) (IsToken
 abbrev pub IsSymbolItem : SymbolItem → List Lexeme → Type 0
 IsSymbolItem (Declares name arity) xs = (BeginsWith IsInclude xs → ⊥) × IsDeclaration (name, arity) xs
 IsSymbolItem (IncludesClasses include names) xs = IsIncludeOf (include, names) xs
+
+-- name | numeral
+abbrev pub IsMember : Token → List Lexeme → Type 0
+IsMember member xs = IsToken Name member xs ⊎ IsToken Numeral member xs
+
+-- member { "," member }
+abbrev pub AreMembers : List Token → List Lexeme → Type 0
+AreMembers members xs = Separated (IsKind Comma) IsMember members xs
+
+-- name ":" member { "," member }
+abbrev pub IsClassItem : ClassItem → List Lexeme → Type 0
+IsClassItem c xs = Then (IsToken Name c.name) (Then (One (IsKind Colon)) (AreMembers c.members)) xs
+
+-- { ";" class } [ ";" ] ".", as it stands behind the first class
+abbrev pub AreMoreClasses : List ClassItem → List Lexeme → Type 0
+AreMoreClasses cs xs =
+    Then (One (IsKind Semicolon)) (Closed (IsKind Semicolon) (IsKind Dot) IsClassItem cs) xs
+    ⊎ ((cs ≡ []) × One (IsKind Dot) xs)
+
+-- "Classes" class { ";" class } [ ";" ] "."
+abbrev pub AreListed : ClassItem × List ClassItem → List Lexeme → Type 0
+AreListed cs xs = Then (One (IsWord (codes "Classes"))) (Then (IsClassItem cs.0) (AreMoreClasses cs.1)) xs
+
+-- [ "Classes" class { ";" class } [ ";" ] "." ]
+abbrev pub AreClasses : List ClassItem → List Lexeme → Type 0
+AreClasses [] xs = xs ≡ []
+AreClasses (c ∷ cs) xs = AreListed (c, cs) xs
 
 -- name { "," name } ":"
 abbrev pub IsNameList : List Token → List Lexeme → Type 0
@@ -101,16 +128,18 @@ module _ (notation : Notation) where
   IsItem (Equates sides) xs = (BeginsWith IsInclude xs → ⊥) × IsEquation sides xs
   IsItem (IncludesOperations include names) xs = IsIncludeOf (include, names) xs
 
-  -- "Symbols" symbol items "." "For" "all" variables items "." End, with `;` between items and perhaps behind the last
+  -- "Symbols" symbol items "." classes "For" "all" variables items "." End, with `;` between items and perhaps behind
+  -- the last
   abbrev pub IsFile : File → List Lexeme → Type 0
   IsFile file xs =
       Then (One (IsWord (codes "Symbols")))
       (Then (Closed (IsKind Semicolon) (IsKind Dot) IsSymbolItem file.symbols)
+      (Then (AreClasses file.classes)
       (Then (One (IsWord (codes "For")))
       (Then (One (IsWord (codes "all")))
       (Then (IsVariables file.variables)
       (Then (Closed (IsKind Semicolon) (IsKind Dot) IsItem file.items)
-      (One (IsKind End))))))) xs
+      (One (IsKind End)))))))) xs
 
   -- the lexemes are some file
   abbrev pub IsSomeFile : List Lexeme → Type 0

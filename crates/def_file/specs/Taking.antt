@@ -3,18 +3,18 @@ use Rattle.std.specs.Prelude.{◌≡◌, ℕ, ◌+◌, List, [], ◌∷◌, ◌+
 use Rattle.std.specs.List.{flat_map}
 use Rattle.eq_base.specs.Tree.{Tree, node, map_heads}
 use Rattle.eq_base.specs.Pattern.{PatternCell, fixed}
-use Rattle.eq_base.specs.Meeting.{class_number}
 use Rattle.eq_base.specs.declared.head.Head.{Head}
 use Rattle.eq_base.specs.declared.head.Head.TheVariants.{Symbol}
 use Rattle.eq_base.specs.declared.rules.Op.{Op}
 use Rattle.term_lex.specs.declared.token.Token.{Token}
 use Rattle.term_lex.specs.declared.fault.Fault.{Fault}
-use Rattle.symbol_table.specs.Table.{Table, Keeps, class_name}
+use Rattle.symbol_table.specs.Table.{Table, Keeps}
 use Rattle.written_terms.specs.Notation.{Notation}
 use Rattle.symbol_table.specs.Reading.{read_pattern, IsLivePattern}
 use Rattle.def_file.specs.declared.naming.conditions.Choice.{Choice}
 use Rattle.def_file.specs.declared.naming.conditions.Choice.TheVariants as choice
 use Rattle.def_file.specs.declared.naming.conditions.TakenCondition.{TakenCondition}
+use Rattle.def_file.specs.declared.naming.listed.Listed.{Listed}
 use Rattle.def_file.specs.declared.naming.items.TakenEquation.{TakenEquation}
 use Rattle.def_file.specs.declared.naming.items.TakenItem.{TakenItem}
 use Rattle.def_file.specs.declared.naming.items.TakenItem.TheVariants as taken
@@ -29,12 +29,12 @@ use Rattle.def_file.specs.Trees.{Restriction, InClass, OneOf, Sides, EquationIte
 use Rattle.def_file.specs.Names.{Known, token_bytes}
 use Rattle.def_file.specs.Naming.{knowing}
 use Rattle.def_file.specs.Sides.{IsPattern, limits_of, AnswersLimits}
-use Rattle.def_file.specs.Definitions.{classed, NamesVariable, MeansEquation}
+use Rattle.def_file.specs.Definitions.{classed, NamesClass, NamesVariable, MeansEquation}
 
 -- P of what is known and of the table, whatever atoms and texts join it, and whatever equation classes are included
-abbrev pub Lasts : (Known → Table → Type 0) → Table → List (List ℕ) → Type 0
-Lasts P table variables =
-    (later : Table) (operations : List Op) → Keeps table later → P (knowing later variables operations) later
+abbrev pub Lasts : (Known → Table → Type 0) → Table → Listed → Type 0
+Lasts P table listed =
+    (later : Table) (operations : List Op) → Keeps table later → P (knowing later listed operations) later
 
 module _ (notation : Notation) (text : List ℕ) (known : Known) (table : Table) where
   -- the term from the byte on is this pattern, as the table reads it, and each number in it is live
@@ -44,7 +44,8 @@ module _ (notation : Notation) (text : List ℕ) (known : Known) (table : Table)
 
   -- what a variable may stand for: the class of that name, or the patterns of these terms
   abbrev pub TakesChoice : Restriction → Choice → Type 0
-  TakesChoice (InClass name) (choice.InClass class) = token_bytes text name ≡ class_name class
+  TakesChoice (InClass name) (choice.InClass class) =
+      NamesClass known.class_names (token_bytes text name) class
   TakesChoice (OneOf terms) (choice.OneOf patterns) = AreRelated IsSideTaken terms patterns.items
   TakesChoice written taken = ⊥
 
@@ -85,7 +86,7 @@ HasDeclaredRoot pattern = ⊥
 
 -- the variable with the number of its class, where it is in one
 abbrev pub class_in : ℕ → Choice → List (ℕ × ℕ)
-class_in x (choice.InClass class) = (x, class_number class) ∷ []
+class_in x (choice.InClass class) = (x, class) ∷ []
 class_in x (choice.OneOf patterns) = []
 
 -- the variables that are in classes, each with the number of its class

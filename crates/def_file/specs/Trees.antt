@@ -7,6 +7,11 @@ pub data SymbolItem : Type 0 where
   Declares : (name arity : Token) → SymbolItem  -- name: arity
   IncludesClasses : (include : Token) → List Token → SymbolItem  -- include class, class
 
+-- a class of the file: its name, and its members, each a name or a numeral
+pub record ClassItem : Type 0 where
+  pub name : Token
+  pub members : List Token
+
 -- what a qualified variable may stand for
 pub data Restriction : Type 0 where
   InClass : Token → Restriction  -- in class
@@ -28,8 +33,9 @@ pub data EquationItem : Type 0 where
   Equates : Sides → EquationItem  -- left = right where ..
   IncludesOperations : (include : Token) → List Token → EquationItem  -- include class, class
 
--- a file: its symbols, its variables and its equations
+-- a file: its symbols, its classes, its variables and its equations
 pub record File : Type 0 where
   pub symbols : List SymbolItem
+  pub classes : List ClassItem
   pub variables : List Token
   pub items : List EquationItem

@@ -1,9 +1,11 @@
 // What a definitions file says.
-ghost use Rattle.std.specs.Prelude.{◌≡◌, ◌≤◌, ◌<◌, ◌↔◌, length, slice_get, Some, IfSome, IsNone};
+ghost use Rattle.std.specs.Prelude.{◌≡◌, ◌+◌, ◌≤◌, ◌<◌, ◌↔◌, length, slice_get, Some, IfSome, IsNone};
 ghost use Rattle.std.specs.Slice.Iter.{iter_rest};
+ghost use Rattle.def_file.specs.Definitions.{NamesClass};
 ghost use Rattle.def_file.specs.declared.definitions.Numbered.{Numbered as NumberedItem};
 
-use eq_base::{Op, Pattern};
+use crate::class_names::ClassNames;
+use eq_base::{Classes, Op, Pattern};
 use std::marker::Model;
 use std::slice;
 use symbol_table::{Symbols, Variables};
@@ -171,11 +173,15 @@ impl Model for Items {
     ghost view = { λ i. i.list.items };
 }
 
-/// The symbols, the variables and the items of a file.
+/// The symbols, the classes, the variables and the items of a file.
 #[derive(Drop)]
 pub struct Definitions {
     /// The symbols.
     pub symbols: Symbols,
+    /// The names of the classes.
+    pub class_names: ClassNames,
+    /// The classes, which have the numbers behind those of the symbol classes.
+    pub classes: Classes,
     /// The variables, by their numbers.
     pub variables: Variables,
     /// The items in their order.
@@ -207,6 +213,20 @@ impl Items {
 }
 
 impl Definitions {
+    /// The name of the class with the number, of a symbol class or of one of the file.
+    pub fn class_name(&self, class: u8) -> &[u8]
+        requires { class < 4 + length self.now.class_names }
+        ensures { NamesClass self.now.class_names result.now class }
+    {
+        match class {
+            0 => b"integer_numerals",
+            1 => b"atomic_symbols",
+            2 => b"truth_values",
+            3 => b"strings",
+            _ => self.class_names.name(class),
+        }
+    }
+
     /// The item with that place in the list.
     pub fn item(&self, number: usize) -> Option<&Item>
         ensures some { IfSome result (λ item. (n : NumberedItem) × (slice_get self.now.items number ≡ Some n)

@@ -1,12 +1,16 @@
 // The names of a file: what it declares, and whether each name is used as it is declared.
-ghost use Rattle.std.specs.Prelude.{◌≡◌, ◌≤◌, ◌^◌, [], length, map, IfOk};
+ghost use Rattle.std.specs.Prelude.{◌≡◌, ◌≤◌, ◌^◌, [], length, map, IfOk, IfErr};
 ghost use Rattle.def_file.specs.Views.{file};
 ghost use Rattle.def_file.specs.Grammar.{IsFileText};
-ghost use Rattle.def_file.specs.Names.{nothing_known, places_of};
-ghost use Rattle.def_file.specs.Naming.{IsNaming, known_of};
+ghost use Rattle.term_lex.specs.declared.syntax.Syntax.{Syntax as SyntaxValue};
+ghost use Rattle.def_file.specs.Errors.{IfRefused};
+ghost use Rattle.def_file.specs.Names.{nothing_known, listed_places, places_of, TakesAll, RefusesFirst};
+ghost use Rattle.def_file.specs.Naming.{ArePlaced, IsNaming, only_symbols, no_operations, known_of};
 ghost use Rattle.def_file.specs.Sides.{all_limits, AnswersLimits};
 ghost use Rattle.def_file.specs.AsRead.{numbered_read, AreLiveItems};
 ghost use Rattle.def_file.specs.Definitions.{MeanItems, sides_of};
+ghost use Rattle.symbol_table.specs.Table.{names_of};
+ghost use Rattle.symbol_table.specs.Reading.{AreLiveClasses};
 ghost use Rattle.def_file.specs.Notations.{notation_of};
 
 mod classes;
@@ -14,15 +18,20 @@ mod conditions;
 mod faults;
 mod items;
 mod limits;
+mod listed;
+mod members;
 mod operations;
 mod symbols;
 mod terms;
 mod variables;
 
+use crate::class_names::ClassNames;
 use crate::error::FileError;
 use crate::tree::File;
-use eq_base::Op;
+use eq_base::{Classes, Op};
 use items::{Taken, take_items};
+use listed::Listed;
+use members::take_class_items;
 pub use operations::symbol_of;
 use std::alloc::Global;
 use symbol_table::{Symbols, Variables};
@@ -35,12 +44,43 @@ use variables::take_variables;
 pub struct Named {
     /// The symbols.
     pub symbols: Symbols,
-    /// The variables.
-    pub variables: Variables,
+    /// The classes and the variables.
+    pub listed: Listed,
     /// The equation classes.
     pub operations: Vec<Op>,
     /// The items.
     pub taken: Taken,
+}
+
+/// Takes the classes and the variables of a file.
+fn take_listed(
+    alloc: Global,
+    text: &[u8],
+    written: &File,
+    symbols: &Symbols,
+) -> Result<Listed, FileError>
+    requires short { length text.now ≤ 2 ^ 24 }
+    requires placed { ArePlaced text.now (listed_places (file written.now)) }
+    requires few { length written.now.variables.items ≤ length text.now }
+    ensures taken { (syntax : SyntaxValue) → IfOk result (λ listed. TakesAll (notation_of syntax) text.now
+        (only_symbols symbols.now) (listed_places (file written.now)) (no_operations symbols.now listed)) }
+    ensures refused { (syntax : SyntaxValue) → IfErr result (IfRefused (RefusesFirst (notation_of syntax)
+        text.now (only_symbols symbols.now) (listed_places (file written.now)))) }
+    ensures members { IfOk result (λ listed. AreLiveClasses (names_of symbols.now) listed.classes) }
+    ensures named { IfOk result (λ listed. length listed.class_names ≡ length listed.classes) }
+{
+    let class_names = ClassNames::new(alloc);
+    let classes = Classes::new(alloc);
+    let variables = Variables::new(alloc);
+    let mut listed = Listed {
+        class_names,
+        classes,
+        members: 0,
+        variables,
+    };
+    take_class_items(text, &written.classes, symbols, &mut listed)?;
+    take_variables(text, &written.variables, symbols, &mut listed)?;
+    Ok(listed)
 }
 
 /// Takes the names of the file that the text is.
@@ -56,13 +96,15 @@ pub fn take_names(
     ensures items { IfOk result (λ named. MeanItems (notation_of syntax) text.now (known_of named)
         1 (file written.now).items (map (numbered_read named.symbols) named.taken.items.items)) }
     ensures live { IfOk result (λ named. AreLiveItems named.symbols named.taken.items.items) }
+    ensures members { IfOk result (λ named. AreLiveClasses (names_of named.symbols) named.listed.classes) }
+    ensures named { IfOk result
+        (λ named. length named.listed.class_names ≡ length named.listed.classes) }
     ensures limits { IfOk result (λ named. AnswersLimits (notation_of syntax) text.now (known_of named)
         (all_limits 0 (sides_of (file written.now))) named.taken.fault) }
 {
     let mut symbols = Symbols::new(alloc);
     take_symbols(text, &written.symbols, &mut symbols)?;
-    let mut variables = Variables::new(alloc);
-    take_variables(text, &written.variables, &symbols, &mut variables)?;
+    let listed = take_listed(alloc, text, written, &symbols)?;
     let mut operations = Vec::new(alloc);
     let taken = take_items(
         alloc,
@@ -70,12 +112,12 @@ pub fn take_names(
         syntax,
         &written.items,
         &mut symbols,
-        &variables,
+        &listed,
         &mut operations,
     )?;
     Ok(Named {
         symbols,
-        variables,
+        listed,
         operations,
         taken,
     })

@@ -7,6 +7,7 @@ ghost use Rattle.def_file.specs.Definitions.{IsFileFault, IsDefinitions};
 ghost use Rattle.def_file.specs.Naming.{IsNamed};
 ghost use Rattle.def_file.specs.AsRead.{ReadDefinitions, answer_read, AreLiveItems};
 ghost use Rattle.term_lex.specs.declared.fault.Fault.{Fault as FaultValue};
+ghost use Rattle.symbol_table.specs.Reading.{AreLiveClasses};
 ghost use Rattle.def_file.specs.Notations.{notation_of};
 
 use crate::definitions::{Definitions, Items};
@@ -50,6 +51,8 @@ pub fn read_named(alloc: Global, text: &[u8], syntax: Syntax) -> Result<(File, N
 fn definitions_in(alloc: Global, text: &[u8], syntax: Syntax) -> Result<Definitions, FileError>
     ensures answer { AnswersRight (IsDefinitions (notation_of syntax) text.now) (answer_read result) }
     ensures live { IfOk result (λ d. AreLiveItems d.symbols d.items) }
+    ensures members { IfOk result (λ d. AreLiveClasses d.symbols d.classes) }
+    ensures named { IfOk result (λ d. length d.class_names ≡ length d.classes) }
 {
     let (_, named) = read_named(alloc, text, syntax)?;
     if let Some(fault) = named.taken.fault {
@@ -57,7 +60,9 @@ fn definitions_in(alloc: Global, text: &[u8], syntax: Syntax) -> Result<Definiti
     }
     Ok(Definitions {
         symbols: named.symbols,
-        variables: named.variables,
+        class_names: named.listed.class_names,
+        classes: named.listed.classes,
+        variables: named.listed.variables,
         items: Items::new(named.taken.items),
     })
 }
@@ -80,6 +85,8 @@ pub fn read_definitions(
         → IsDefinitions (notation_of syntax) text.now other
         → AnswersAs other (answer_read result) }
     ensures live { IfOk result (λ d. AreLiveItems d.symbols d.items) }
+    ensures members { IfOk result (λ d. AreLiveClasses d.symbols d.classes) }
+    ensures named { IfOk result (λ d. length d.class_names ≡ length d.classes) }
 {
     definitions_in(alloc, text, syntax)
 }

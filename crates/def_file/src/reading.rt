@@ -5,6 +5,7 @@ ghost use Rattle.def_file.specs.Views.{file};
 ghost use Rattle.def_file.specs.Reading.{IsReadIn};
 ghost use Rattle.def_file.specs.Notations.{notation_of};
 
+mod classes;
 mod conditions;
 mod items;
 mod names;
@@ -15,6 +16,7 @@ mod variables;
 
 use crate::error::FileError;
 use crate::tree::File;
+use classes::read_classes;
 use items::read_items;
 use std::alloc::Global;
 use symbols::read_symbol_items;
@@ -28,7 +30,8 @@ pub fn read_file(alloc: Global, text: &[u8], syntax: Syntax) -> Result<(File, us
         IsReadIn notation (IsFile notation) file text.now 0 result }
 {
     let symbols_at = skip_word(text, 0, b"Symbols")?;
-    let (symbols, for_at) = read_symbol_items(alloc, text, symbols_at)?;
+    let (symbols, classes_at) = read_symbol_items(alloc, text, symbols_at)?;
+    let (classes, for_at) = read_classes(alloc, text, classes_at)?;
     let all_at = skip_word(text, for_at, b"For")?;
     let variables_at = skip_word(text, all_at, b"all")?;
     let (variables, items_at) = read_variables(alloc, text, variables_at)?;
@@ -36,6 +39,7 @@ pub fn read_file(alloc: Global, text: &[u8], syntax: Syntax) -> Result<(File, us
     let end = skip_kind(text, end_at, TokenKind::End)?;
     let file = File {
         symbols,
+        classes,
         variables,
         items,
     };

@@ -1,7 +1,7 @@
 use super::definitions::Item;
 use super::error::FileError;
 use super::phases::read_definitions;
-use eq_base::{Cell, Head};
+use eq_base::{Cell, Head, push_numeral};
 use std::alloc::{AllocError, Global};
 use std::test::Fail;
 use term_lex::{Fault, FaultKind, Syntax, TokenKind};
@@ -193,6 +193,82 @@ fn faults(rt: HostRuntime) -> Result<(), Fail> {
             47,
         ),
         (
+            b"Symbols a: 0. Classes . For all: .".as_slice(),
+            FaultKind::Expected {
+                found: TokenKind::Dot,
+            },
+            22,
+        ),
+        (
+            b"Symbols a: 0. Classes k: a, . For all: .".as_slice(),
+            FaultKind::Expected {
+                found: TokenKind::Dot,
+            },
+            28,
+        ),
+        (
+            b"Symbols a: 0. Classes k: a For all: .".as_slice(),
+            FaultKind::Expected {
+                found: TokenKind::Name,
+            },
+            27,
+        ),
+        (
+            b"Symbols f: 1; a: 0. Classes k: a; low: a, k: a. For all: .".as_slice(),
+            FaultKind::Expected {
+                found: TokenKind::Colon,
+            },
+            43,
+        ),
+        (
+            b"Symbols f: 1; a: 0. Classes low: a, b. For all: .".as_slice(),
+            FaultKind::Unknown,
+            36,
+        ),
+        (
+            b"Symbols f: 1; a: 0. Classes low: a, a. For all: .".as_slice(),
+            FaultKind::Twice,
+            36,
+        ),
+        (
+            b"Symbols include integer_numerals. Classes k: 0, -0. For all: .".as_slice(),
+            FaultKind::Twice,
+            48,
+        ),
+        (
+            b"Symbols a: 0. Classes k: a; k: a. For all: .".as_slice(),
+            FaultKind::Twice,
+            28,
+        ),
+        (
+            b"Symbols a: 0. Classes strings: a. For all: .".as_slice(),
+            FaultKind::Twice,
+            22,
+        ),
+        (
+            b"Symbols include atomic_symbols. Classes k: a. For all: .".as_slice(),
+            FaultKind::Unknown,
+            43,
+        ),
+        (
+            b"Symbols f: 1. Classes k: f. For all: .".as_slice(),
+            FaultKind::WrongArity {
+                declared: 1,
+                found: 0,
+            },
+            25,
+        ),
+        (
+            b"Symbols a: 0. Classes k: a, 0. For all: .".as_slice(),
+            FaultKind::NotIncluded,
+            28,
+        ),
+        (
+            b"Symbols f: 1; a: 0. Classes k: a. For all x: f(x) = x where x is in h end where.".as_slice(),
+            FaultKind::UnknownClass,
+            68,
+        ),
+        (
             b"Symbols f: 1. For all x: x = x; f(x) = g.".as_slice(),
             FaultKind::Unknown,
             39,
@@ -282,6 +358,87 @@ fn many_equations(rt: HostRuntime) -> Result<(), Fail> {
 }
 
 #[test]
+fn many_classes(rt: HostRuntime) -> Result<(), Fail> {
+    let mut text = Vec::new(rt.alloc());
+    text.extend_from_slice(b"Symbols a: 0. Classes ")?;
+    for i in 0..250 {
+        text.extend_from_slice(b"k")?;
+        push_numeral(&mut text, i)?;
+        text.extend_from_slice(b": a; ")?;
+    }
+    let mut more = text.clone()?;
+    text.extend_from_slice(b". For all: .")?;
+    assert_eq!(rt; error_of(rt.alloc(), &text, Syntax::Standmath), None);
+    let fault = Fault {
+        kind: FaultKind::ClassesPast,
+        byte: more.len(),
+    };
+    more.extend_from_slice(b"k: a. For all: .")?;
+    assert_eq!(rt;
+        error_of(rt.alloc(), &more, Syntax::Standmath),
+        Some(FileError::Refused(fault))
+    );
+    Ok(())
+}
+
+#[test]
+fn many_members(rt: HostRuntime) -> Result<(), Fail> {
+    let mut text = Vec::new(rt.alloc());
+    text.extend_from_slice(b"Symbols include integer_numerals. Classes k: 0")?;
+    for i in 1..4096 {
+        text.extend_from_slice(b", ")?;
+        push_numeral(&mut text, i)?;
+    }
+    let mut more = text.clone()?;
+    text.extend_from_slice(b". For all: .")?;
+    assert_eq!(rt; error_of(rt.alloc(), &text, Syntax::Standmath), None);
+    more.extend_from_slice(b"; h: ")?;
+    let fault = Fault {
+        kind: FaultKind::MembersPast,
+        byte: more.len(),
+    };
+    more.extend_from_slice(b"0. For all: .")?;
+    assert_eq!(rt;
+        error_of(rt.alloc(), &more, Syntax::Standmath),
+        Some(FileError::Refused(fault))
+    );
+    Ok(())
+}
+
+/// The first member of the second class of a file, and whether the first and the last symbol class and the second class of
+/// the file have these names.
+fn class_of(alloc: Global, text: &[u8], name: &[u8]) -> Option<(Head, bool, bool, bool)> {
+    let Ok(definitions) = read_definitions(alloc, text, Syntax::Standmath) else {
+        return None;
+    };
+    if definitions.class_names.len() != 2 || definitions.classes.len() != 2 {
+        return None;
+    }
+    if definitions.classes.members(5) == 0 {
+        return None;
+    }
+    Some((
+        definitions.classes.member(5, 0),
+        definitions.class_name(0) == b"integer_numerals".as_slice(),
+        definitions.class_name(3) == b"strings".as_slice(),
+        definitions.class_name(5) == name,
+    ))
+}
+
+#[test]
+fn classes(rt: HostRuntime) {
+    let text =
+        b"Symbols a: 0; include integer_numerals. Classes low: a, 0; high: 7, a; For all: .".as_slice();
+    assert_eq!(rt; class_of(rt.alloc(), text, b"high"), None);
+    let text =
+        b"Symbols a: 0; include integer_numerals. Classes low: a, 0; high: 7, a; . For all: .".as_slice();
+    assert_eq!(rt;
+        class_of(rt.alloc(), text, b"high"),
+        Some((Head::Numeral(7), true, true, true))
+    );
+}
+
+#[test]
 fn lists(rt: HostRuntime) {
     for (text, fault) in [
         (
@@ -356,5 +513,9 @@ fn qualifiers(rt: HostRuntime) -> Result<(), Fail> {
         cells_of(rt.alloc(), text),
         Some((add, numeral, numeral, 2))
     );
+    let text =
+        b"Symbols add: 2; include integer_numerals. Classes one: 1; two: 2. For all x, y: include addint; add(x, y) = y where x is either y or add(x, y) end or, y is in two end where.".as_slice();
+    let two = Cell::Class(1, 5);
+    assert_eq!(rt; cells_of(rt.alloc(), text), Some((add, two, two, 2)));
     Ok(())
 }

@@ -10,6 +10,15 @@ pub enum SymbolItem {
     Includes(Token, Vec<Token>),
 }
 
+/// A class of the file: `name: member, member`.
+#[derive(Drop)]
+pub struct ClassItem {
+    /// The name.
+    pub name: Token,
+    /// The members, each a name or a numeral.
+    pub members: Vec<Token>,
+}
+
 /// What a qualified variable may stand for.
 #[derive(Drop)]
 pub enum Restriction {
@@ -53,6 +62,8 @@ pub enum EquationItem {
 pub struct File {
     /// The items of the section of symbols.
     pub symbols: Vec<SymbolItem>,
+    /// The items of the section of classes; none where there is no section.
+    pub classes: Vec<ClassItem>,
     /// The names between `For all` and the colon.
     pub variables: Vec<Token>,
     /// The items behind the colon.

@@ -4,22 +4,24 @@ use Rattle.std.specs.Prelude.{slice_get, ◌==◌, if◌then◌else◌, flat_map
 use Rattle.std.specs.Option.{option_map}
 use Rattle.std.proofs.lemmas.Option.{slice_get-map}
 use Rattle.eq_base.specs.Tree.{Tree, nth_position}
-use Rattle.eq_base.specs.Pattern.{PatternCell}
+use Rattle.eq_base.specs.Pattern.{PatternCell, Classes}
 use Rattle.eq_base.specs.Mapping.{map_cell, map_pattern, map_right, map_rule}
 use Rattle.eq_base.specs.Rewriting.{RightSide, pattern, operation, Rule}
 use Rattle.eq_base.specs.Rules.{rule_of}
-use Rattle.eq_base.specs.ReadHead.{in_read_class}
+use Rattle.eq_base.specs.RuleList.{RuleList}
+use Rattle.eq_base.specs.ReadHead.{ReadHead, in_read_class}
 use Rattle.eq_base.specs.declared.rules.Equation.{Equation}
 use Rattle.eq_base.proofs.Mapped.{nth_position-map}
 use Rattle.symbol_table.specs.Table.{Table, HasOneNumberEach}
-use Rattle.symbol_table.specs.Reading.{read_head, read_rule, AreLive}
+use Rattle.symbol_table.specs.Reading.{read_head, read_rule, read_classes, AreLive}
 use Rattle.regularity.specs.declared.breaks.Break.{Break}
 use Rattle.regularity.specs.Listing.{Lists}
+use Rattle.sequentiality.specs.Restrictions.{IsViolation}
 use Rattle.sequentiality.specs.Violations as numbered
 use Rattle.orthogonal_laws.proofs.ReadRestrictions.{violations_read, violations_mapped, lists_violations_read, lists_violations_mapped}
 use Rattle.qualifiers.specs.Expansion.{origin_in}
 use Rattle.qualifiers.specs.AsRead.{plain_equation}
-use Rattle.ei_program.specs.Definitions.{rule_in, Breaks, BreaksNone}
+use Rattle.ei_program.specs.Definitions.{rule_in}
 use Rattle.ei_program.specs.Restrictions.{right_of, broken_side, broken_line, origin_name, position_name, most_told, more_line, line_by, break_line, broken_text, origin_of}
 
 -- ---- how breaks are told
@@ -61,13 +63,21 @@ module _ (table : Table) where
 
 -- ---- what they break
 
-module _ (table : Table) (one : HasOneNumberEach table) (es : List Equation) (live : AreLive table es) where
-  -- the same restrictions
-  pub lists_read : (bs : List Break) → Lists (numbered.IsViolation es) bs → Lists (Breaks (map (plain_equation table) es)) bs
-  lists_read bs lists =
-      (lists_violations_mapped in_read_class (read_rule table) rule_in (plain_equation table) (λ e. refl) es bs).0
-      ((lists_violations_read table one es live bs).0 lists)
+module _ (table : Table) (one : HasOneNumberEach table) (rules : RuleList) (live : AreLive table rules) where
+  -- which read heads belong to which class
+  abbrev in_read : Classes ReadHead
+  in_read = in_read_class (read_classes table rules.classes)
 
-  pub none_read : ((b : Break) → numbered.IsViolation es b → ⊥) → BreaksNone (map (plain_equation table) es)
+  -- the equations as they are read break this
+  abbrev BreaksRead : Break → Type 0
+  BreaksRead b = IsViolation in_read rule_in (map (plain_equation table) rules.equations) b
+
+  -- the same restrictions
+  pub lists_read : (bs : List Break) → Lists (numbered.IsViolation rules) bs → Lists BreaksRead bs
+  lists_read bs lists =
+      (lists_violations_mapped in_read (read_rule table) rule_in (plain_equation table) (λ e. refl) rules.equations bs).0
+      ((lists_violations_read table one rules live bs).0 lists)
+
+  pub none_read : ((b : Break) → numbered.IsViolation rules b → ⊥) → (b : Break) → BreaksRead b → ⊥
   none_read none b breaks =
-      none b ((violations_read table one es live b).1 ((violations_mapped in_read_class (read_rule table) rule_in (plain_equation table) (λ e. refl) es b).1 breaks))
+      none b ((violations_read table one rules live b).1 ((violations_mapped in_read (read_rule table) rule_in (plain_equation table) (λ e. refl) rules.equations b).1 breaks))

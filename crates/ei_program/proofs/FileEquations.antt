@@ -1,13 +1,15 @@
 -- The equations of a file are well formed, and the truth values are declared where an operation needs them.
-use Rattle.std.proofs.Common.{◌≡◌, ℕ, zero, suc, ◌+◌, ◌<◌, List, [], ◌∷◌, ◌++◌, map, length, refl, sym, ap, ◌∙◌, subst, arith, rules}
+use Rattle.std.proofs.Common.{◌≡◌, ℕ, zero, suc, ◌+◌, ◌<◌, List, [], ◌∷◌, ◌++◌, map, length, inl, inr, refl, sym, ap, ◌∙◌, subst, arith, rules}
 use Rattle.std.specs.Prelude.{Bool, true, false, IsTrue, Contains, ◌==◌, ◌&&◌, nat_lt, slice_index_or}
 use Rattle.std.specs.List.{AllByRecursion, flat_map}
+use Rattle.std.proofs.lemmas.Bool.{cases_lt}
 use Rattle.std.proofs.lemmas.List.{length-map}
 use Rattle.std.proofs.lemmas.List.Elements.{Contains-append_left, Contains-append_right}
 use Rattle.eq_base.specs.Tree.{Tree, Forest, node, empty, grow, count, head_of, map_heads}
 use Rattle.eq_base.specs.Pattern.{PatternCell, fixed, variable, restricted, variables, all_variables}
 use Rattle.eq_base.specs.Mapping.{map_cell, map_right}
-use Rattle.eq_base.specs.Meeting.{class_number, in_symbol_class}
+use Rattle.eq_base.specs.Meeting.{class_number, in_symbol_class, same_head, in_class_of}
+use Rattle.eq_base.specs.RuleList.{RuleList}
 use Rattle.eq_base.specs.Rewriting.{RightSide, pattern, operation}
 use Rattle.eq_base.specs.Operations.{application, compares}
 use Rattle.eq_base.specs.ReadHead.{ReadHead, symbol}
@@ -20,11 +22,12 @@ use Rattle.eq_base.specs.declared.rules.Equation.{Equation}
 use Rattle.eq_base.specs.declared.rules.Right.{Right}
 use Rattle.eq_base.specs.declared.rules.Right.TheVariants as rights
 use Rattle.eq_base.specs.Rules.{right_side}
+use Rattle.eq_base.proofs.ClassMembers.{same_head_decides, symbol_class}
 use Rattle.eq_base.proofs.Lists.{all_at, all_both, all_contained}
 use Rattle.eq_base.proofs.Trees.{size-map_heads}
 use Rattle.term_lex.specs.declared.token.Token.{Token}
 use Rattle.symbol_table.specs.Table.{Table, symbols_of, Includes, names_of}
-use Rattle.symbol_table.specs.Reading.{read_head}
+use Rattle.symbol_table.specs.Reading.{read_head, read_classes}
 use Rattle.written_terms.specs.Notation.{Notation}
 use Rattle.written_terms.proofs.Notations.{IsLawful}
 use Rattle.regularity.specs.Arities.{HasArities, HaveArities}
@@ -52,6 +55,7 @@ use Rattle.qualifiers.proofs.MeantParts.{parts_have}
 use Rattle.qualifiers.proofs.SaysProper.{says_proper}
 use Rattle.ei_program.proofs.Meanings.{arity_in, listed_arity, meant_arities}
 use Rattle.ei_program.proofs.ReadPatterns.{arities_back, root_back, application_back}
+use Rattle.ei_program.proofs.Members.{HaveNoArguments, members_constant, listed_constant}
 
 -- ---- patterns whose variables are replaced
 
@@ -159,12 +163,12 @@ module _ (table : Table) where
   HasItsNeeds e = (op : Op) → e.rule.right ≡ operation op → HasNeeds table op
 
   -- each equation of an item has what its operation needs
-  given_needs : (number : ℕ) (i : ItemOf ReadHead) (es : List (Unnumbered ReadHead)) → IsProperItem table i → HasNoCircle i → Gives symbol table number i es → AllByRecursion HasItsNeeds es
-  given_needs number (WrittenEquation w) es proper none gives =
+  given_needs : (count number : ℕ) (i : ItemOf ReadHead) (es : List (Unnumbered ReadHead)) → IsProperItem count table i → HasNoCircle i → Gives symbol table number i es → AllByRecursion HasItsNeeds es
+  given_needs count number (WrittenEquation w) es proper none gives =
       each_choice HasItsNeeds w number es
       (λ choice e is of op right. let plain : pattern (replace of.replacement w.right) ≡ operation op = sym (ap (λ (u : Unnumbered ReadHead). u.rule.right) of.is) ∙ right in cc)
       gives
-  given_needs number (Class op byte) es needs none (e, of, is) =
+  given_needs count number (Class op byte) es needs none (e, of, is) =
       let its : HasItsNeeds e = λ other right. let one : ◌≡◌ {A = RightSide ReadHead} (operation op) (operation other) = sym (ap (λ (u : Unnumbered ReadHead). u.rule.right) of.is) ∙ right in subst (HasNeeds table) (let same : op ≡ other = cc in same) needs in
       subst (AllByRecursion HasItsNeeds) (sym is) (its, tt)
 
@@ -258,12 +262,20 @@ second_true false b is = cc
 below_two : (s : ℕ) → IsTrue (nat_lt s 2) → s < 2
 below_two s is = search rules
 
--- the heads of classes have no arguments
-constants : (names table : Table) (class : ℕ) (h : Head) → IsTrue (in_symbol_class class h) → arity_in names (read_head table h) ≡ 0
-constants names table class (Symbol s) is = truth_arity names s (below_two s (second_true (class == class_number TruthValues) (nat_lt s 2) is))
-constants names table class (Numeral i) is = refl
-constants names table class (Atom n) is = refl
-constants names table class (Text n) is = refl
+-- the heads of symbol classes have no arguments
+symbol_constants : (names table : Table) (class : ℕ) (h : Head) → IsTrue (in_symbol_class class h) → arity_in names (read_head table h) ≡ 0
+symbol_constants names table class (Symbol s) is = truth_arity names s (below_two s (second_true (class == class_number TruthValues) (nat_lt s 2) is))
+symbol_constants names table class (Numeral i) is = refl
+symbol_constants names table class (Atom n) is = refl
+symbol_constants names table class (Text n) is = refl
+
+-- nor have those of the classes of a file, where its members have none
+constants : (names table : Table) (classes : List (List Head)) → HaveNoArguments names (read_classes table classes) → (class : ℕ) (h : Head) → IsTrue (in_class_of classes class h) → arity_in names (read_head table h) ≡ 0
+constants names table classes none class h is =
+    elim (cases_lt class 4) [
+      | inl below ↦ symbol_constants names table class h (sym (symbol_class same_head same_head_decides in_symbol_class classes class h below) ∙ is)
+      | inr past ↦ listed_constant names table classes none class h past is
+    ]
 
 -- ---- a file
 
@@ -292,7 +304,10 @@ module _ (table : Table) where
       all_unmapped (λ e. P (read_one e)) (λ (p : PlainEquation ReadHead). P (unnumbered p)) (plain_equation table) (λ e has. has) numbered
       (all_unmapped (λ (p : PlainEquation ReadHead). P (unnumbered p)) P unnumbered (λ p has. has) (plain_equations table numbered) all)
 
-module _ (notation : Notation) (lawful : IsLawful notation) (text : List ℕ) (d : ReadDefinitions) (says : Says notation text d) (table : Table) (numbered : List Equation) where
+module _ (notation : Notation) (lawful : IsLawful notation) (text : List ℕ) (d : ReadDefinitions) (says : Says notation text d) (table : Table) (rules : RuleList) where
+  abbrev numbered : List Equation
+  numbered = rules.equations
+
   abbrev equations : List (Unnumbered ReadHead)
   equations = map unnumbered (plain_equations table numbered)
 
@@ -304,8 +319,8 @@ module _ (notation : Notation) (lawful : IsLawful notation) (text : List ℕ) (d
       (items_fit notation lawful text says.known once 0 1 says.file.items d.items says.items says.limits)
 
   -- its equations are well formed, whatever numbers their heads have
-  pub file_well_formed : IsExpansion d (plain_equations table numbered) → AreWellFormed numbered
-  file_well_formed expansion =
+  pub file_well_formed : IsExpansion d (plain_equations table rules.equations) → read_classes table rules.classes ≡ d.classes → AreWellFormed rules
+  file_well_formed expansion same =
       let within = all_within symbol d.names d.items equations expansion.expands in
       let small = all_numbered table IsSmall numbered within.each in
       let fit = all_numbered table (IsFit d.names) numbered (each_expanded symbol d.names (IsFit d.names) (IsFitItem d.names) (given_fit d.names) [] d.items equations items_are_fit expansion.expands) in
@@ -314,13 +329,13 @@ module _ (notation : Notation) (lawful : IsLawful notation) (text : List ℕ) (d
         each = λ k e lt. numbered_fits table d.names (slice_index_or numbered k e) (all_at (λ e. IsSmall (read_one table e)) numbered k e lt small) (all_at (λ e. IsFit d.names (read_one table e)) numbered k e lt fit);
         arity = λ h. arity_in d.names (read_head table h);
         arities = λ k e lt. let fits = all_at (λ e. IsFit d.names (read_one table e)) numbered k e lt fit in arities_back (arity_in d.names) (read_head table) (slice_index_or numbered k e).left fits.arities;
-        constants = constants d.names table;
+        constants = constants d.names table rules.classes (subst (HaveNoArguments d.names) (sym same) (members_constant notation text d says));
       }
 
   -- and the truth values are declared where the value of an operation is one
-  pub truths_known : d.names ≡ names_of table → IsExpansion d (plain_equations table numbered) → AreTruthsKnown table numbered
+  pub truths_known : d.names ≡ names_of table → IsExpansion d (plain_equations table rules.equations) → AreTruthsKnown table rules
   truths_known same expansion e listed op is compares =
       let proper = says_proper lawful text d says in
-      let needs = all_numbered table (HasItsNeeds d.names) numbered (each_expanded symbol d.names (HasItsNeeds d.names) (IsProperItem d.names) (given_needs d.names) [] d.items equations proper.items expansion.expands) in
+      let needs = all_numbered table (HasItsNeeds d.names) numbered (each_expanded symbol d.names (HasItsNeeds d.names) (IsProperItem (length d.classes) d.names) (given_needs d.names (length d.classes)) [] d.items equations proper.items expansion.expands) in
       let its = all_contained (λ e. HasItsNeeds d.names (read_one table e)) numbered e needs listed op (ap (λ r. map_right (read_head table) (right_side r)) is) in
       subst (λ (names : Table). Includes names TruthValues) same (truths_needed d.names op compares its)

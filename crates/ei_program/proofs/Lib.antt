@@ -2,6 +2,7 @@ mod Answering
 mod Cutting
 mod Meanings
 mod ReadPatterns
+mod Members
 mod FileEquations
 mod Holding
 mod Answers

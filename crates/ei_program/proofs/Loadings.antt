@@ -4,7 +4,7 @@ use Rattle.std.specs.Prelude.{IfOk, Result}
 use Rattle.std.specs.declared.option.Option.{Option}
 use Rattle.std.specs.declared.option.Option.TheVariants.{Some}
 use Rattle.eq_base.specs.Rules.{rule_of}
-use Rattle.eq_base.specs.declared.rules.Equation.{Equation}
+use Rattle.eq_base.specs.RuleList.{RuleList}
 use Rattle.term_lex.specs.declared.syntax.Syntax.{Syntax}
 use Rattle.symbol_table.specs.Table.{HasOneNumberEach, names_of}
 use Rattle.symbol_table.specs.Reading.{AreLive}
@@ -46,15 +46,15 @@ module _ (syntax : Syntax) (file : List ℕ) (equations : Equations) where
   admit_ready (Err outcome) a = tt
 
 -- equations that keep the restrictions can be used
-pub admitted : (e : Equations) (rules : List Equation) (file : List ℕ) → Defines e.syntax file (definitions_in e) → AreUsable e
+pub admitted : (e : Equations) (rules : RuleList) (file : List ℕ) → Defines e.syntax file (definitions_in e) → AreUsable e
     → HasOneNumberEach e.symbols → rules ≡ e.rules → AreRegular rules
     → IsAdmitted e (Ok (record { syntax = e.syntax; symbols = e.symbols; variables = e.variables; regular = rules }))
 admitted e rules file defines usable one same regular =
     let held : Loaded = record { syntax = e.syntax; symbols = e.symbols; variables = e.variables; regular = rules } in
-    let is : definitions_of held ≡ definitions_in e = ap (λ es. record { syntax = e.syntax; names = names_of e.symbols; variables = e.variables; equations = map (plain_equation e.symbols) es }) same in (
+    let is : definitions_of held ≡ definitions_in e = ap (λ (r : RuleList). definitions_in (record { syntax = e.syntax; symbols = e.symbols; variables = e.variables; rules = r })) same in (
       is,
       record {
-        accepted = record { file = file; defines = subst (Defines e.syntax file) (sym is) defines; regular = subst (λ (d : Definitions). BreaksNone d.equations) (sym is) (none_read e.symbols one e.rules usable.live (subst AreRegular same regular).no_violation) };
+        accepted = record { file = file; defines = subst (Defines e.syntax file) (sym is) defines; regular = subst BreaksNone (sym is) (none_read e.symbols one e.rules usable.live (subst AreRegular same regular).no_violation) };
         regular = regular;
         live = subst (AreLive e.symbols) (sym same) usable.live;
         truths = subst (AreTruthsKnown e.symbols) (sym same) usable.truths;
@@ -62,14 +62,14 @@ admitted e rules file defines usable one same regular =
     )
 
 -- the breaks of equations are those of the equations as they are read
-pub broken_read : (e : Equations) (rules : List Equation) (breaks : List Break) → AreUsable e → HasOneNumberEach e.symbols
-    → IsRefused e.rules (BrokenRules breaks rules) → AreBroken (definitions_in e).equations breaks rules
+pub broken_read : (e : Equations) (rules : RuleList) (breaks : List Break) → AreUsable e → HasOneNumberEach e.symbols
+    → IsRefused e.rules (BrokenRules breaks rules) → AreBroken (definitions_in e) breaks rules
 broken_read e rules breaks usable one (same, lists, some) = record {
   listed = lists_read e.symbols one e.rules usable.live breaks lists;
   some = some;
-  told = ap (λ es. broken_text rule_of origin_of es breaks) same ∙ told_read e.symbols e.rules breaks;
+  told = ap (λ (r : RuleList). broken_text rule_of origin_of r.equations breaks) same ∙ told_read e.symbols e.rules.equations breaks;
 }
 
 -- the breaks of equations that come back are theirs
-pub breaks_of : (equations rules : List Equation) (breaks : List Break) → (rules ≡ equations) → Lists (IsViolation equations) breaks → Lists (IsViolation rules) breaks
+pub breaks_of : (equations rules : RuleList) (breaks : List Break) → (rules ≡ equations) → Lists (IsViolation equations) breaks → Lists (IsViolation rules) breaks
 breaks_of equations rules breaks same lists = subst (λ es. Lists (IsViolation es) breaks) (sym same) lists

@@ -3,7 +3,7 @@ use Rattle.std.proofs.Common.{◌≡◌, ◌≤◌, ◌^◌, ◌⊎◌, ℕ, Lis
 use Rattle.std.specs.Prelude.{codes, slice_index_or}
 use Rattle.std.specs.Str.Parse.{digits_value}
 use Rattle.std.specs.declared.option.Option.{Option}
-use Rattle.eq_base.specs.declared.rules.Equation.{Equation}
+use Rattle.eq_base.specs.RuleList.{RuleList}
 use Rattle.eq_base.proofs.Heads.{some_same}
 use Rattle.regularity.specs.declared.breaks.Break.{Break}
 use Rattle.term_lex.specs.declared.fault.Fault.{Fault}
@@ -22,7 +22,7 @@ use Rattle.eq_base.specs.Tree.{Tree}
 use Rattle.eq_base.specs.ReadHead.{ReadHead}
 use Rattle.eq_base.specs.Rules.{rule_of}
 use Rattle.regularity.specs.Listing.{Lists}
-use Rattle.qualifiers.specs.Expansion.{PlainEquation, origin_in}
+use Rattle.qualifiers.specs.Expansion.{origin_in}
 use Rattle.ei_program.specs.Definitions.{Definitions, Defines, rule_in, Breaks, BreaksNone, RefusesFile}
 use Rattle.ei_program.specs.Restrictions.{origin_of, broken_text, AreBroken}
 use Rattle.ei_program.specs.Run.{Given, HasFile, HasDefinitions, Accepts, AcceptsAnswer, AcceptsCheck, Leaves}
@@ -113,22 +113,22 @@ module _ (given : Given) where
 
   -- ---- the restrictions
 
-  regular_or_broken : (es : List (PlainEquation ReadHead)) (breaks : List Break) (rules : List Equation) → BreaksNone es → AreBroken es breaks rules → ⊥
-  regular_or_broken es [] rules regular broken = let some = broken.some in omega (arith, some)
-  regular_or_broken es (b ∷ bs) rules regular broken = regular b (broken.listed.only b (0, broken.some, refl))
+  regular_or_broken : (d : Definitions) (breaks : List Break) (rules : RuleList) → BreaksNone d → AreBroken d breaks rules → ⊥
+  regular_or_broken d [] rules regular broken = let some = broken.some in omega (arith, some)
+  regular_or_broken d (b ∷ bs) rules regular broken = regular b (broken.listed.only b (0, broken.some, refl))
 
-  accepts_or_broken : (task other : Task) (d e : Definitions) (breaks : List Break) (rules : List Equation) → Accepts given task d → HasDefinitions given other e → AreBroken e.equations breaks rules → ⊥
+  accepts_or_broken : (task other : Task) (d e : Definitions) (breaks : List Break) (rules : RuleList) → Accepts given task d → HasDefinitions given other e → AreBroken e breaks rules → ⊥
   accepts_or_broken task other d e breaks rules a k broken =
       let same = one_given task.syntax a.definitions.bytes d e a.definitions.defines (both_give task other d e a.definitions k) in
-      regular_or_broken e.equations breaks rules (subst (λ (o : Definitions). BreaksNone o.equations) same a.regular) broken
+      regular_or_broken e breaks rules (subst BreaksNone same a.regular) broken
 
-  one_broken : (task other : Task) (d e : Definitions) (bs cs : List Break) (rs ss : List Equation) → HasDefinitions given task d → HasDefinitions given other e → AreBroken d.equations bs rs → AreBroken e.equations cs ss
-      → (cs ≡ bs) × (broken_text rule_of origin_of ss bs ≡ broken_text rule_of origin_of rs bs)
+  one_broken : (task other : Task) (d e : Definitions) (bs cs : List Break) (rs ss : RuleList) → HasDefinitions given task d → HasDefinitions given other e → AreBroken d bs rs → AreBroken e cs ss
+      → (cs ≡ bs) × (broken_text rule_of origin_of ss.equations bs ≡ broken_text rule_of origin_of rs.equations bs)
   one_broken task other d e bs cs rs ss h k one two =
       let same = one_given task.syntax h.bytes d e h.defines (both_give task other d e h k) in
-      let listed = one_listing (Breaks e.equations) cs bs two.listed (subst (λ (o : Definitions). Lists (Breaks o.equations) bs) same one.listed) in (
+      let listed = one_listing (Breaks e) cs bs two.listed (subst (λ (o : Definitions). Lists (Breaks o) bs) same one.listed) in (
         listed,
-        ap (broken_text rule_of origin_of ss) (sym listed) ∙ two.told ∙ ap (broken_text rule_in origin_in e.equations) listed
+        ap (broken_text rule_of origin_of ss.equations) (sym listed) ∙ two.told ∙ ap (broken_text rule_in origin_in e.equations) listed
             ∙ sym (ap (λ (o : Definitions). broken_text rule_in origin_in o.equations bs) same) ∙ sym one.told,
       )
 

@@ -15,7 +15,7 @@ use Rattle.ei_program.specs.Run.{Given, Accepts, AcceptsAnswer, AcceptsCheck, An
 
 -- the file is there, gives these definitions, and they break no restriction
 abbrev pub Loads : Syntax → Option (List ℕ) → Definitions → Type 0
-Loads syntax found d = (file : List ℕ) × (found ≡ Some file) × Defines syntax file d × BreaksNone d.equations
+Loads syntax found d = (file : List ℕ) × (found ≡ Some file) × Defines syntax file d × BreaksNone d
 
 module _ (given : Given) (task : Task) (name : List ℕ) (asked : Asks given.words task name) where
   -- nothing was taken of the input, and nothing written

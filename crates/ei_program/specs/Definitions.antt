@@ -7,6 +7,7 @@ use Rattle.eq_base.specs.Operations.{value_of}
 use Rattle.term_lex.specs.declared.fault.Fault.{Fault}
 use Rattle.term_lex.specs.declared.syntax.Syntax.{Syntax}
 use Rattle.symbol_table.specs.Table.{Table, names_of}
+use Rattle.symbol_table.specs.Reading.{read_classes}
 use Rattle.def_file.specs.AsRead.{ReadDefinitions}
 use Rattle.def_file.specs.Notations.{notation_of}
 use Rattle.def_file.specs.Definitions.{Says, IsFileFault}
@@ -17,11 +18,12 @@ use Rattle.sequentiality.specs.Restrictions.{IsViolation}
 use Rattle.ei_program.specs.declared.definitions.Equations.{Equations}
 use Rattle.ei_program.specs.declared.loading.Loaded.{Loaded}
 
--- the notation, what is declared and included, the names of the variables, and the equations, with the alternatives
--- of variables put in their places
+-- the notation, what is declared and included, the heads of each class of the file, the names of the variables, and the
+-- equations, with the alternatives of variables put in their places
 pub record Definitions : Type 0 where
   pub syntax : Syntax
   pub names : Table
+  pub classes : List (List ReadHead)
   pub variables : List (List ℕ)
   pub equations : List (PlainEquation ReadHead)
 
@@ -31,15 +33,16 @@ rule_in e = e.rule
 
 -- rewriting by the equations
 abbrev pub system : Definitions → System ReadHead
-system d = record { rules = map rule_in d.equations; in_class = in_read_class; value_of = value_of }
+system d =
+    record { rules = map rule_in d.equations; in_class = in_read_class d.classes; value_of = value_of }
 
 -- the equations break this restriction
-abbrev pub Breaks : List (PlainEquation ReadHead) → Break → Type 0
-Breaks equations b = IsViolation in_read_class rule_in equations b
+abbrev pub Breaks : Definitions → Break → Type 0
+Breaks d b = IsViolation (in_read_class d.classes) rule_in d.equations b
 
 -- the equations break no restriction
-abbrev pub BreaksNone : List (PlainEquation ReadHead) → Type 0
-BreaksNone equations = (b : Break) → Breaks equations b → ⊥
+abbrev pub BreaksNone : Definitions → Type 0
+BreaksNone d = (b : Break) → Breaks d b → ⊥
 
 -- ---- a file, by its bytes
 
@@ -50,6 +53,7 @@ pub record Defines (syntax : Syntax) (text : List ℕ) (d : Definitions) : Type 
   pub expansion : IsExpansion read d.equations
   pub notation : d.syntax ≡ syntax
   pub names : d.names ≡ read.names
+  pub classes : d.classes ≡ read.classes
   pub variables : d.variables ≡ read.variables
 
 -- the file can be read, but not expanded, and this is its first fault
@@ -67,14 +71,15 @@ RefusesFile syntax text fault =
 pub record IsAccepted (d : Definitions) : Type 0 where
   pub file : List ℕ
   pub defines : Defines d.syntax file d
-  pub regular : BreaksNone d.equations
+  pub regular : BreaksNone d
 
 -- the root steps by the equations are exactly the instances of the file's own items: of its equations as they are
 -- written, by substitutions that satisfy each qualifier, and of the operations that it includes
 abbrev pub HasWrittenSteps : Syntax → List ℕ → Definitions → Type 0
 HasWrittenSteps syntax text d = (read : ReadDefinitions) → Says (notation_of syntax) text read
     → (t u : Tree ReadHead)
-    → HaveItemInstance symbol value_of in_read_class read.names read.items t u ↔ RootStep (system d) t u
+    → HaveItemInstance symbol value_of (in_read_class read.classes) read.names read.items t u
+    ↔ RootStep (system d) t u
 
 -- ---- what a program holds
 
@@ -83,8 +88,9 @@ abbrev pub definitions_in : Equations → Definitions
 definitions_in e = record {
   syntax = e.syntax;
   names = names_of e.symbols;
+  classes = read_classes e.symbols e.rules.classes;
   variables = e.variables;
-  equations = plain_equations e.symbols e.rules;
+  equations = plain_equations e.symbols e.rules.equations;
 }
 
 -- what a program holds that loaded a file
@@ -92,6 +98,7 @@ abbrev pub definitions_of : Loaded → Definitions
 definitions_of l = record {
   syntax = l.syntax;
   names = names_of l.symbols;
+  classes = read_classes l.symbols l.regular.classes;
   variables = l.variables;
-  equations = plain_equations l.symbols l.regular;
+  equations = plain_equations l.symbols l.regular.equations;
 }

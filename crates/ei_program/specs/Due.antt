@@ -4,7 +4,7 @@ use Rattle.std.specs.declared.option.Option.{Option}
 use Rattle.eq_base.specs.Tree.{Tree}
 use Rattle.eq_base.specs.ReadHead.{ReadHead}
 use Rattle.eq_base.specs.Rules.{rule_of}
-use Rattle.eq_base.specs.declared.rules.Equation.{Equation}
+use Rattle.eq_base.specs.RuleList.{RuleList}
 use Rattle.term_lex.specs.declared.fault.Fault.{Fault}
 use Rattle.ei_program.specs.declared.words.Task.{Task}
 use Rattle.ei_program.specs.declared.outcome.Outcome.{Outcome}
@@ -40,7 +40,7 @@ IsDue given BadWords = ¬ IsCommandLine given.words
 IsDue given (FileRefused fault) = (task : Task) × (bytes : List ℕ) × HasFile given task bytes
     × RefusesFile task.syntax bytes fault
 IsDue given (Broken breaks rules) = (task : Task) × (d : Definitions) × HasDefinitions given task d
-    × AreBroken d.equations breaks rules
+    × AreBroken d breaks rules
 IsDue given (TermRefused fault) = HasTermFault given fault
 IsDue given Answered = CanAnswer given ⊎ ((d : Definitions) × AcceptsCheck given d)
 IsDue given outcome = ⊥
@@ -50,8 +50,9 @@ IsDue given outcome = ⊥
 abbrev pub AnswersDue : Outcome → Outcome → Type 0
 AnswersDue Answered outcome = (outcome ≡ Answered) ⊎ (outcome ≡ Questions)
 AnswersDue (Broken breaks rules) outcome =
-    (others : List Equation) × (outcome ≡ Broken breaks others)
-    × (broken_text rule_of origin_of others breaks ≡ broken_text rule_of origin_of rules breaks)
+    (others : RuleList) × (outcome ≡ Broken breaks others)
+    × (broken_text rule_of origin_of others.equations breaks
+    ≡ broken_text rule_of origin_of rules.equations breaks)
 AnswersDue due outcome = outcome ≡ due
 
 -- the due outcome is told, or memory ran out

@@ -43,18 +43,18 @@ pub record IsReady (l : Loaded) : Type 0 where
 -- the equations break no restriction and are as before; or they break these; or memory ran out
 abbrev pub IsAdmitted : Equations → Result Loaded Outcome → Type 0
 IsAdmitted equations (Ok loaded) = (definitions_of loaded ≡ definitions_in equations) × IsReady loaded
-IsAdmitted equations (Err (Broken breaks rules)) = AreBroken (definitions_in equations).equations breaks rules
+IsAdmitted equations (Err (Broken breaks rules)) = AreBroken (definitions_in equations) breaks rules
 IsAdmitted equations (Err (Stopped NoMemory)) = Unit {0}
 IsAdmitted equations (Err outcome) = ⊥
 
 -- the file gives equations that break no restriction; or it is not accepted, with this outcome
 abbrev pub IsLoaded : Syntax → Option (List ℕ) → Result Loaded Outcome → Type 0
 IsLoaded syntax found (Ok loaded) = (file : List ℕ) × (found ≡ Some file)
-    × Defines syntax file (definitions_of loaded) × BreaksNone (definitions_of loaded).equations
+    × Defines syntax file (definitions_of loaded) × BreaksNone (definitions_of loaded)
 IsLoaded syntax found (Err (FileRefused fault)) = (file : List ℕ) × (found ≡ Some file)
     × RefusesFile syntax file fault
 IsLoaded syntax found (Err (Broken breaks rules)) = (file : List ℕ) × (d : Definitions) × (found ≡ Some file)
-    × Defines syntax file d × AreBroken d.equations breaks rules
+    × Defines syntax file d × AreBroken d breaks rules
 IsLoaded syntax found (Err (Stopped NoMemory)) = Unit {0}
 IsLoaded syntax found (Err (Stopped ReadFailed)) = Unit {0}
 IsLoaded syntax found (Err outcome) = ⊥

@@ -4,13 +4,14 @@ use Rattle.eq_base.specs.Tree.{Tree, Position, size, nth_position}
 use Rattle.eq_base.specs.Pattern.{PatternCell}
 use Rattle.eq_base.specs.Rewriting.{RightSide, pattern, operation, Rule}
 use Rattle.eq_base.specs.Rules.{rule_of}
+use Rattle.eq_base.specs.RuleList.{RuleList}
 use Rattle.eq_base.specs.declared.rules.Origin.{Origin}
 use Rattle.eq_base.specs.declared.rules.Equation.{Equation}
 use Rattle.regularity.specs.declared.breaks.Break.{Break}
 use Rattle.regularity.specs.Listing.{Lists}
 use Rattle.eq_base.specs.ReadHead.{ReadHead}
 use Rattle.qualifiers.specs.Expansion.{PlainEquation, origin_in}
-use Rattle.ei_program.specs.Definitions.{rule_in, Breaks}
+use Rattle.ei_program.specs.Definitions.{Definitions, rule_in, Breaks}
 
 -- the number of a part, behind a dot, where the item has parts
 abbrev pub part_name : ℕ → List ℕ
@@ -102,11 +103,11 @@ origin_of e = e.origin
 
 -- these are the breaks of the equations, of which there is one at least; the rules that came back tell of them as the
 -- equations do
-pub record AreBroken (equations : List (PlainEquation ReadHead)) (breaks : List Break)
-    (rules : List Equation) : Type 0 where
-  pub listed : Lists (Breaks equations) breaks
+pub record AreBroken (d : Definitions) (breaks : List Break) (rules : RuleList) : Type 0 where
+  pub listed : Lists (Breaks d) breaks
   pub some : 0 < length breaks
-  pub told : broken_text rule_of origin_of rules breaks ≡ broken_text rule_in origin_in equations breaks
+  pub told : broken_text rule_of origin_of rules.equations breaks
+      ≡ broken_text rule_in origin_in d.equations breaks
 
 -- the equations of the break are in the list, and its place is one of the side at which it stands
 pub record IsInList (equations : List Equation) (b : Break) : Type 0 where

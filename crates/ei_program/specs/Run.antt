@@ -38,7 +38,7 @@ pub record HasDefinitions (given : Given) (task : Task) (d : Definitions) : Type
 -- the file gives these definitions, and they break no restriction
 pub record Accepts (given : Given) (task : Task) (d : Definitions) : Type 0 where
   pub definitions : HasDefinitions given task d
-  pub regular : BreaksNone d.equations
+  pub regular : BreaksNone d
 
 -- the words ask that the terms are answered, and the file is accepted
 abbrev pub AcceptsAnswer : Given → ℕ → Definitions → Type 0
@@ -156,7 +156,7 @@ Leaves given left (FileRefused fault) written =
     ((task : Task) × (bytes : List ℕ) × HasFile given task bytes × RefusesFile task.syntax bytes fault)
     × Untouched given left written
 Leaves given left (Broken breaks rules) written =
-    ((task : Task) × (d : Definitions) × HasDefinitions given task d × AreBroken d.equations breaks rules)
+    ((task : Task) × (d : Definitions) × HasDefinitions given task d × AreBroken d breaks rules)
     × Untouched given left written
 Leaves given left outcome written =
     AnswersTask given left outcome written

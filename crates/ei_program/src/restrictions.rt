@@ -112,8 +112,8 @@ fn line_by(
 
 /// The line of a break.
 fn break_line(alloc: Global, rules: &Rules, found: Break) -> Result<String, NoMemory>
-    requires { IsInList rules.now found }
-    ensures { IfOk result (λ line. string_bytes line ≡ break_line rule_of origin_of rules.now found) }
+    requires { IsInList rules.now.equations found }
+    ensures { IfOk result (λ line. string_bytes line ≡ break_line rule_of origin_of rules.now.equations found) }
 {
     let one = rules.equation(found.first as usize);
     let other = rules.equation(found.second as usize);
@@ -123,7 +123,7 @@ fn break_line(alloc: Global, rules: &Rules, found: Break) -> Result<String, NoMe
 /// What is told of breaks: how many they are, the first 50 of them, and how many more there are.
 pub fn broken_text(alloc: Global, rules: &Rules, breaks: &Breaks) -> Result<String, NoMemory>
     requires { Lists (IsViolation rules.now) breaks.now }
-    ensures { IfOk result (λ text. string_bytes text ≡ broken_text rule_of origin_of rules.now breaks.now) }
+    ensures { IfOk result (λ text. string_bytes text ≡ broken_text rule_of origin_of rules.now.equations breaks.now) }
 {
     let count = breaks.len();
     let told = count.min(MOST_TOLD);

@@ -102,6 +102,27 @@ For all n:
   h(0) = 1.
 ";
 
+const SHARED_CLASSES: &str = "Symbols f: 1; a: 0; b: 0; c: 0.
+Classes low: a, b; high: b, c.
+For all x:
+  f(x) = a where x is in low end where;
+  f(x) = c where x is in high end where.
+";
+
+const APART_CLASSES: &str = "Symbols f: 1; a: 0; b: 0; c: 0.
+Classes low: a, b; high: c.
+For all x:
+  f(x) = a where x is in low end where;
+  f(x) = c where x is in high end where.
+";
+
+const SAME_RIGHT_SIDES: &str = "Symbols f: 1; a: 0; b: 0; c: 0.
+Classes low: a, b; high: b, c.
+For all x:
+  f(x) = x where x is in low end where;
+  f(x) = x where x is in high end where.
+";
+
 const MANY_CHOICES: &str = "Symbols a: 0; b: 0; f: 13.
 For all c, d, e, g, h, i, j, k, l, m, n, o, p:
   f(c, d, e, g, h, i, j, k, l, m, n, o, p) = a where
@@ -250,6 +271,10 @@ fn answers(rt: HostRuntime) -> Result<(), Fail> {
         ("Symbols a: 0. For all: .", "a.", 0, "a\n"),
         (EITHER, "f(s(a)).", 0, "g(s(a))\n"),
         (EITHER, "f(b).", 0, "f(b)\n"),
+        (APART_CLASSES, "f(b).", 0, "a\n"),
+        (APART_CLASSES, "f(c).", 0, "c\n"),
+        (APART_CLASSES, "f(f(a)).", 0, "a\n"),
+        (SAME_RIGHT_SIDES, "f(b).", 0, "b\n"),
     ] {
         let row = Row {
             file,
@@ -357,6 +382,14 @@ fn refused_files(rt: HostRuntime) -> Result<(), Fail> {
             MANY_CHOICES,
             "ei: equations refused: ExpansionPast at byte 76\n",
         ),
+        (
+            "Symbols f: 1; a: 0. Classes low: a, b. For all: .",
+            "ei: equations refused: Unknown at byte 36\n",
+        ),
+        (
+            "Symbols f: 1; a: 0. Classes low: a, a. For all: .",
+            "ei: equations refused: Twice at byte 36\n",
+        ),
     ] {
         let row = Row {
             file,
@@ -460,6 +493,10 @@ RE3 equation 2 with equation 3
 RE3 equation 1 with equation 2
 RE3 equation 1 with equation 3
 ",
+        ),
+        (
+            SHARED_CLASSES,
+            "ei: restrictions broken: 1\nRE3 equation 1 with equation 2\n",
         ),
         (
             "Symbols a: 0; b: 0; c: 0; d: 0; f: 1. For all x:

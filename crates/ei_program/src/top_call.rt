@@ -82,7 +82,7 @@ pub fn ei<F: Files, I: Source, O: Sink, E: Sink>(
     // By whatever file: the root steps by its equations are exactly the instances of its own items, as they
     // are written.
     ensures steps { (syntax : Syntax) (file : List ℕ) (d : Definitions) → Defines syntax file d
-        → BreaksNone d.equations → HasWrittenSteps syntax file d }
+        → BreaksNone d → HasWrittenSteps syntax file d }
 
     // The words are refused only where they are no command line.
     ensures words { result ≡ Status.Words → ¬ IsCommandLine (map string_bytes words.items) }

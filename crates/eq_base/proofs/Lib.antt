@@ -9,6 +9,7 @@ pub mod Instances
 pub mod Heads
 pub mod Decimals
 pub mod Mapped
+pub mod ClassMembers
 mod Ends
 mod Reading
 mod Built

@@ -3,8 +3,11 @@ pub mod Tree
 pub mod Pattern
 pub mod Testing
 pub mod Rewriting
+pub mod RuleList
 pub mod Rules
+pub mod ClassLists
 pub mod Meeting
+pub mod Sharing
 pub mod Cells
 pub mod Building
 pub mod View

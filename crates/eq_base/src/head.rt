@@ -23,7 +23,7 @@ impl<T: Drop> From<AllocFailed<T>> for NoMemory {
 }
 
 /// The head of a term. Only a symbol takes arguments.
-#[derive(Clone, Copy, PartialEq, Eq, Debug)]
+#[derive(Clone, Copy, PartialEq, Eq, Hash, Debug)]
 pub enum Head {
     /// A declared symbol, by its number.
     Symbol(u32),

@@ -1,6 +1,7 @@
 // Terms, patterns and equations.
 #![tactic(auto)]
 
+pub mod classes;
 pub mod flat;
 pub mod head;
 mod kind;
@@ -13,6 +14,7 @@ mod preorder;
 pub mod rules;
 pub mod view;
 
+pub use classes::{Classes, FIRST_CLASS};
 pub use flat::{Flat, FlatMaker, same_tree};
 pub use head::{Cell, Head, NoMemory};
 pub use limits::{MOST_EQUATIONS, MOST_LEFT_CELLS, MOST_RIGHT_CELLS, MOST_TEXT_BYTES};

@@ -3,6 +3,7 @@ ghost use Rattle.std.specs.Prelude.{◌≡◌, ◌<◌, [], ◌∷◌, ◌++◌,
 ghost use Rattle.std.specs.Slice.Iter.{iter_rest};
 ghost use Rattle.std.specs.Iterator.Adapters.{IterYieldsInOrder};
 
+use crate::classes::Classes;
 use crate::head::NoMemory;
 use crate::pattern::Pattern;
 use std::alloc::Global;
@@ -65,38 +66,51 @@ pub struct Equation {
     pub origin: Origin,
 }
 
-/// A list of equations.
+/// A list of equations, and the classes of their file.
 #[derive(Drop)]
 pub struct Rules {
+    classes: Classes,
     equations: Vec<Equation>,
 }
 
 impl Model for Rules {
-    ghost use Rattle.std.specs.Prelude.{List};
-    ghost use Rattle.std.specs.Coded.{coded_list};
+    ghost use Rattle.std.specs.Coded.{code_by, coded×, coded_list};
+    ghost use Rattle.std.specs.Prelude.{refl};
+    ghost use Rattle.eq_base.specs.contracts.head.Head as head_type;
     ghost use Rattle.eq_base.specs.contracts.rules.Equation as equation_type;
-    ghost use Rattle.eq_base.specs.declared.rules.Equation.{Equation};
+    ghost use Rattle.eq_base.specs.RuleList.{RuleList};
 
-    ghost Value = { List Equation };
+    ghost Value = { RuleList };
 
-    ghost coded = { coded_list equation_type.the_row.coded };
+    ghost coded = { code_by _ (coded× (coded_list (coded_list head_type.the_row.coded))
+        (coded_list equation_type.the_row.coded)) (λ r. (r.classes, r.equations))
+        (λ p. record { classes = p.0; equations = p.1 }) (λ _. refl) };
 
-    ghost view = { λ r. r.equations.items };
+    ghost view = { λ r. record { classes = r.classes; equations = r.equations.items } };
 }
 
 impl Rules {
-    /// No equations. It takes no memory.
-    pub fn new(alloc: Global) -> Rules
-        ensures { result ≡ [] }
+    /// No equations, of a file with these classes. It takes no memory.
+    pub fn new(alloc: Global, classes: Classes) -> Rules
+        ensures { result ≡ record { classes = classes; equations = [] } }
     {
         Rules {
+            classes,
             equations: Vec::new(alloc),
         }
     }
 
+    /// The classes of the file.
+    pub fn classes(&self) -> &Classes
+        ensures { result.now ≡ self.now.classes }
+    {
+        &self.classes
+    }
+
     /// Adds an equation at the end. Where there is no memory the equation is dropped.
     pub fn push(&mut self, equation: Equation) -> Result<(), NoMemory>
-        ensures ok { OnOk result (self.new ≡ self.old ++ equation ∷ []) }
+        ensures ok { OnOk result (self.new
+            ≡ record self.old { equations = self.old.equations ++ equation ∷ [] }) }
         ensures err { OnErr result (self.new ≡ self.old) }
     {
         self.equations.push(equation)?;
@@ -105,23 +119,23 @@ impl Rules {
 
     /// The number of equations.
     pub fn len(&self) -> usize
-        ensures { result ≡ length self.now }
+        ensures { result ≡ length self.now.equations }
     {
         self.equations.len()
     }
 
     /// The equation with a number, counted from 0.
     pub fn equation(&self, number: usize) -> &Equation
-        requires { number < length self.now }
-        ensures { slice_get self.now number ≡ Some result.now }
+        requires { number < length self.now.equations }
+        ensures { slice_get self.now.equations number ≡ Some result.now }
     {
         &self.equations[number]
     }
 
     /// The equations, in their order.
     pub fn iter(&self) -> Iter<'_, Equation>
-        ensures rest { iter_rest result ≡ self.now }
-        ensures len { length (iter_rest result) ≡ length self.now }
+        ensures rest { iter_rest result ≡ self.now.equations }
+        ensures len { length (iter_rest result) ≡ length self.now.equations }
         ensures runs { IterYieldsInOrder Equation }
     {
         self.equations.iter()

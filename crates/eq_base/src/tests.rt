@@ -1,5 +1,6 @@
 use crate::{
-    Cell, Flat, FlatMaker, Head, NoMemory, Pattern, PatternMaker, push_numeral, same_tree,
+    Cell, Classes, Flat, FlatMaker, Head, NoMemory, Pattern, PatternMaker, clash, meets,
+    push_numeral, same_tree,
 };
 use std::alloc::Global;
 use std::test::Fail;
@@ -28,6 +29,40 @@ fn makers_succeed_with_memory(rt: HostRuntime) -> Result<(), Fail> {
     let other = small_term(rt.alloc())?;
     assert!(rt; same_tree(&one, &other));
     assert_eq!(rt; small_pattern(rt.alloc())?.len(), 3);
+    Ok(())
+}
+
+#[test]
+fn classes_list_heads(rt: HostRuntime) -> Result<(), Fail> {
+    let mut classes = Classes::new(rt.alloc());
+    let class = classes.begin()?;
+    let empty = classes.begin()?;
+    assert!(rt; classes.add(class, Head::Symbol(2))?);
+    assert!(rt; classes.add(class, Head::Numeral(-1))?);
+    assert!(rt; !classes.add(class, Head::Symbol(2))?);
+    let copy = classes.copy(rt.alloc())?;
+    assert_eq!(rt; copy.len(), 2);
+    assert_eq!(rt; copy.members(class), 2);
+    assert_eq!(rt; copy.members(empty), 0);
+    for (head, listed) in [
+        (Head::Symbol(2), true),
+        (Head::Symbol(3), false),
+        (Head::Numeral(-1), true),
+    ] {
+        assert_eq!(rt; meets(&copy, Cell::Class(0, class), head), listed);
+    }
+    for (other, none) in [
+        (class, false),
+        (empty, true),
+        (0, false),
+        (1, true),
+        (9, true),
+    ] {
+        assert_eq!(rt;
+            clash(&copy, Cell::Class(0, class), Cell::Class(1, other)),
+            none
+        );
+    }
     Ok(())
 }
 

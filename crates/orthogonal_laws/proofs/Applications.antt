@@ -1,12 +1,12 @@
 -- Applications of operations: what stands below the root is constants, and these alone decide the value.
 use Rattle.std.proofs.Common.{◌≡◌, ◌≢◌, ◌⊎◌, inl, inr, ℕ, refl, sym, ◌∙◌, ap, subst}
 use Rattle.eq_base.specs.Tree.{Tree, node, empty, grow}
-use Rattle.eq_base.specs.Pattern.{PatternCell, fixed, Substitution, apply, IsConstantOf, IsInstanceOf}
-use Rattle.eq_base.specs.Meeting.{in_symbol_class}
+use Rattle.eq_base.specs.Pattern.{PatternCell, fixed, Classes, Substitution, apply, IsConstantOf}
 use Rattle.eq_base.specs.Operations.{application, operand}
 use Rattle.eq_base.specs.declared.head.Head.{Head}
 use Rattle.eq_base.specs.declared.rules.Op.{Op}
 use Rattle.eq_base.specs.declared.rules.Op.TheVariants.{AddInt, SubInt, MultInt, DivInt, ModInt, EquInt, LessInt, EquAtom, EquStr, ConcatStr, LengthStr}
+use Rattle.orthogonal_laws.specs.Matching.{HasShapeOf}
 use Rattle.orthogonal_laws.specs.Orthogonal.{AgreeOnRestricted}
 use Rattle.orthogonal_laws.specs.Operations.{Values}
 
@@ -45,29 +45,29 @@ same_value values op left a σ τ agree =
 
 -- ---- what an application looks like
 
-constant_is : (class : ℕ) (s : Tree Head) → IsConstantOf in_symbol_class class s → (h : Head) × (s ≡ node h empty)
-constant_is class (node h empty) c = (h, refl)
-constant_is class (node h (grow t ts)) c = absurd c
+constant_is : (in_class : Classes Head) (class : ℕ) (s : Tree Head) → IsConstantOf in_class class s → (h : Head) × (s ≡ node h empty)
+constant_is in_class class (node h empty) c = (h, refl)
+constant_is in_class class (node h (grow t ts)) c = absurd c
 
 -- it is a symbol over its operands, which are constants
 pub data Applied (op : Op) (s : Tree Head) : Type 0 where
   to_one : (f h : Head) → s ≡ node f (grow (node h empty) empty) → op ≡ LengthStr → Applied op s
   to_two : (f h k : Head) → s ≡ node f (grow (node h empty) (grow (node k empty) empty)) → op ≢ LengthStr → Applied op s
 
-one_applied : (op : Op) (f : Head) (s : Tree Head) → IsInstanceOf in_symbol_class (over_one op f) s → op ≡ LengthStr → Applied op s
+one_applied : (op : Op) (f : Head) (s : Tree Head) → HasShapeOf (over_one op f) s → op ≡ LengthStr → Applied op s
 one_applied op f s i e =
-    let a = constant_is _ (i.substitution 0) i.respects.0 in
-    to_one f a.0 (sym i.applied ∙ ap (λ a. node f (grow a empty)) a.1) e
+    let a = constant_is i.0 _ (i.1.substitution 0) i.1.respects.0 in
+    to_one f a.0 (sym i.1.applied ∙ ap (λ a. node f (grow a empty)) a.1) e
 
-two_applied : (op : Op) (f : Head) (s : Tree Head) → IsInstanceOf in_symbol_class (over_two op f) s → op ≢ LengthStr → Applied op s
+two_applied : (op : Op) (f : Head) (s : Tree Head) → HasShapeOf (over_two op f) s → op ≢ LengthStr → Applied op s
 two_applied op f s i e =
-    let a = constant_is _ (i.substitution 0) i.respects.0 in
-    let b = constant_is _ (i.substitution 1) i.respects.1.0 in
-    to_two f a.0 b.0 (sym i.applied ∙ ap (λ a. node f (grow a (grow (i.substitution 1) empty))) a.1 ∙ ap (λ b. node f (grow (node a.0 empty) (grow b empty))) b.1) e
+    let a = constant_is i.0 _ (i.1.substitution 0) i.1.respects.0 in
+    let b = constant_is i.0 _ (i.1.substitution 1) i.1.respects.1.0 in
+    to_two f a.0 b.0 (sym i.1.applied ∙ ap (λ a. node f (grow a (grow (i.1.substitution 1) empty))) a.1 ∙ ap (λ b. node f (grow (node a.0 empty) (grow b empty))) b.1) e
 
-pub applied : (op : Op) (s : Tree Head) → (f : Head) × IsInstanceOf in_symbol_class (application op f) s → Applied op s
+pub applied : (op : Op) (s : Tree Head) → (f : Head) × HasShapeOf (application op f) s → Applied op s
 applied op s i =
     elim (application_shape op i.0) [
-      | inl e ↦ one_applied op i.0 s (subst (λ p. IsInstanceOf in_symbol_class p s) e.0 i.1) e.1
-      | inr e ↦ two_applied op i.0 s (subst (λ p. IsInstanceOf in_symbol_class p s) e.0 i.1) e.1
+      | inl e ↦ one_applied op i.0 s (subst (λ p. HasShapeOf p s) e.0 i.1) e.1
+      | inr e ↦ two_applied op i.0 s (subst (λ p. HasShapeOf p s) e.0 i.1) e.1
     ]

@@ -5,10 +5,10 @@ use Rattle.std.proofs.lemmas.Bool.{cases_lt}
 use Rattle.std.proofs.lemmas.List.Elements.{Contains-append_cases, Contains-append_left, Contains-append_right}
 use Rattle.eq_base.specs.Tree.{Tree, Forest, node, empty, grow, args_of, count, size, nth_subtree}
 use Rattle.eq_base.specs.Storing.{join}
-use Rattle.eq_base.specs.Pattern.{PatternCell, fixed, variable, restricted, variables, all_variables, Substitution, apply, apply_all, IsInstanceOf}
+use Rattle.eq_base.specs.Pattern.{PatternCell, fixed, variable, restricted, variables, all_variables, Substitution, apply, apply_all}
 use Rattle.eq_base.specs.Cells.{root_cell, variable_in}
-use Rattle.eq_base.specs.Meeting.{in_symbol_class}
 use Rattle.eq_base.specs.declared.head.Head as rust
+use Rattle.orthogonal_laws.specs.Matching.{HasShapeOf}
 use Rattle.eq_base.proofs.Scans.{forest_from, forest_from-start, forest_from-node, forest_from-args, forest_from-end}
 
 abbrev pub Pattern : Type 0
@@ -98,7 +98,7 @@ module _ (left : Pattern) (term : Tree rust.Head) (at x : ℕ) where
     occurs = subst OccursIn (sym (forest_from-start left)) (Contains-append_left (variables left) [] x occurs);
   }
 
-  module _ (i here : ℕ) (is : IsFinding left term at x i here) (fits : IsInstanceOf in_symbol_class left (nth_subtree term at)) where
+  module _ (i here : ℕ) (is : IsFinding left term at x i here) (fits : HasShapeOf left (nth_subtree term at)) where
     pub find_end : size left ≤ i → ⊥
     find_end past = let none : OccursIn empty = subst OccursIn (forest_from-end left i past) is.occurs in omega (arith, none.1)
 
@@ -117,7 +117,7 @@ module _ (left : Pattern) (term : Tree rust.Head) (at x : ℕ) where
 
       pub find_there : here < size term
       find_there =
-          let s = unread fits.substitution fits.applied in
+          let s = unread fits.1.substitution fits.1.applied in
           ⊎_elim (λ below. below)
           (λ past. absurd (omega (arith, ap count s.is, ap count (forest_from-end term here past))))
           (cases_lt here (size term))

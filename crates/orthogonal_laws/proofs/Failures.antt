@@ -6,7 +6,8 @@ use Rattle.std.specs.Prelude.{slice_get, Contains}
 use Rattle.eq_base.specs.Tree.{Tree, node, head_of, args_of, arity_of}
 use Rattle.eq_base.specs.Pattern.{PatternCell, IsInstanceOf}
 use Rattle.eq_base.specs.Rewriting.{System}
-use Rattle.eq_base.specs.Meeting.{in_symbol_class}
+use Rattle.eq_base.specs.Meeting.{in_class_of}
+use Rattle.eq_base.specs.RuleList.{RuleList}
 use Rattle.eq_base.specs.Rules.{rule_of, system_of}
 use Rattle.eq_base.specs.declared.head.Head.{Head}
 use Rattle.eq_base.specs.declared.rules.Equation.{Equation}
@@ -26,56 +27,56 @@ use Rattle.orthogonal_laws.proofs.Reaching.{Reaches, reaches-one, furthest}
 use Rattle.orthogonal_laws.proofs.Followed.{own}
 
 -- the same of the equations before one
-pub record FailsSoFar (es : List Equation) (bound : ℕ) (t : Tree Head) (n : ℕ) : Type 0 where
-  pub each : (number : ℕ) (e : Equation) → number < bound → slice_get es number ≡ Some e → (k : ℕ) × FailsAt e.left t k × (k ≤ n)
-  pub some : (n ≡ 0) ⊎ ((number : ℕ) × (e : Equation) × (slice_get es number ≡ Some e) × FailsAt e.left t n)
+pub record FailsSoFar (rules : RuleList) (bound : ℕ) (t : Tree Head) (n : ℕ) : Type 0 where
+  pub each : (number : ℕ) (e : Equation) → number < bound → slice_get rules.equations number ≡ Some e → (k : ℕ) × FailsAt rules.classes e.left t k × (k ≤ n)
+  pub some : (n ≡ 0) ⊎ ((number : ℕ) × (e : Equation) × (slice_get rules.equations number ≡ Some e) × FailsAt rules.classes e.left t n)
 
 -- where a left side fails, it is not met
-pub failing_not_met : (left : Tree (PatternCell Head)) (t : Tree Head) (k : ℕ) → FailsAt left t k → IsInstanceOf in_symbol_class left t → ⊥
-failing_not_met left t k fails i = mismatch-fits in_symbol_class fails (fits_from_instance in_symbol_class left t i, tt)
+pub failing_not_met : (classes : List (List Head)) (left : Tree (PatternCell Head)) (t : Tree Head) (k : ℕ) → FailsAt classes left t k → IsInstanceOf (in_class_of classes) left t → ⊥
+failing_not_met classes left t k fails i = mismatch-fits (in_class_of classes) fails (fits_from_instance (in_class_of classes) left t i, tt)
 
-pub fails_none : (es : List Equation) (t : Tree Head) → FailsSoFar es 0 t 0
-fails_none es t = record { each = λ number e lt there. absurd (omega arith); some = inl refl }
+pub fails_none : (rules : RuleList) (t : Tree Head) → FailsSoFar rules 0 t 0
+fails_none rules t = record { each = λ number e lt there. absurd (omega arith); some = inl refl }
 
-pub fails_more : (es : List Equation) (number : ℕ) (e : Equation) → slice_get es number ≡ Some e → (t : Tree Head) (n k m : ℕ) → FailsSoFar es number t n → FailsAt e.left t k → m ≡ max n k → FailsSoFar es (number + 1) t m
-fails_more es number e there t n k m so_far fails is =
+pub fails_more : (rules : RuleList) (number : ℕ) (e : Equation) → slice_get rules.equations number ≡ Some e → (t : Tree Head) (n k m : ℕ) → FailsSoFar rules number t n → FailsAt rules.classes e.left t k → m ≡ max n k → FailsSoFar rules (number + 1) t m
+fails_more rules number e there t n k m so_far fails is =
     record {
       each = λ i d lt there'. ⊎_elim
           (λ below. let x = so_far.each i d below there' in (x.0, x.1, omega (arith, x.2, is)))
           (λ past.
           let same : i ≡ number = omega arith in
-          let e' : e ≡ d = let z = subst (λ z. slice_get es z ≡ Some d) same there' in cc in
-          (k, subst (λ (d : Equation). FailsAt d.left t k) e' fails, omega (arith, is)))
+          let e' : e ≡ d = let z = subst (λ z. slice_get rules.equations z ≡ Some d) same there' in cc in
+          (k, subst (λ (d : Equation). FailsAt rules.classes d.left t k) e' fails, omega (arith, is)))
           (cases_lt i number);
       some = ⊎_elim
           (λ below.
           let same : k ≡ m = omega (arith, is) in
-          inr (number, e, there, subst (λ z. FailsAt e.left t z) same fails))
+          inr (number, e, there, subst (λ z. FailsAt rules.classes e.left t z) same fails))
           (λ past.
           let same : n ≡ m = omega (arith, is) in
-          elim so_far.some [ inl z ↦ inl (omega (arith, z, same)) | inr s ↦ inr (s.0, s.1, s.2, subst (λ z. FailsAt s.1.left t z) same s.3) ])
+          elim so_far.some [ inl z ↦ inl (omega (arith, z, same)) | inr s ↦ inr (s.0, s.1, s.2, subst (λ z. FailsAt rules.classes s.1.left t z) same s.3) ])
           (cases_lt n k);
     }
 
-pub fails_all : (es : List Equation) (bound : ℕ) (t : Tree Head) (n : ℕ) → FailsSoFar es bound t n → length es ≤ bound → IsLastFailure es t n
-fails_all es bound t n so_far past = record { each = λ number e there. let z = slice_get_within es number e there in so_far.each number e (omega (arith, z)) there; some = so_far.some }
+pub fails_all : (rules : RuleList) (bound : ℕ) (t : Tree Head) (n : ℕ) → FailsSoFar rules bound t n → length rules.equations ≤ bound → IsLastFailure rules t n
+fails_all rules bound t n so_far past = record { each = λ number e there. let z = slice_get_within rules.equations number e there in so_far.each number e (omega (arith, z)) there; some = so_far.some }
 
-module _ (values : Values) (es : List Equation) (w : IsWellFormedSystem (system_of values es)) (o : IsOrthogonal (system_of values es)) where
+module _ (values : Values) (rules : RuleList) (w : IsWellFormedSystem (system_of values rules)) (o : IsOrthogonal (system_of values rules)) where
   abbrev system : System Head
-  system = system_of values es
+  system = system_of values rules
 
   -- a translated rule is that of an equation
   record OfEquation (rule : Compiled Head) : Type 0 where
     number : ℕ
     equation : Equation
-    there : slice_get es number ≡ Some equation
+    there : slice_get rules.equations number ≡ Some equation
     listed : Contains system.rules (rule_of equation)
     is : compile system w (rule_of equation) ≡ rule
 
   of_equation : (rule : Compiled Head) → Member (compiled system w) rule → OfEquation rule
   of_equation rule m =
       let x = map-in (compile system w) system.rules rule (contains-in (contains_of m)) in
-      let y = map-in rule_of es x.0 x.1 in
+      let y = map-in rule_of rules.equations x.0 x.1 in
       let z = in-get y.1 in
       record {
         number = z.0;
@@ -85,17 +86,17 @@ module _ (values : Values) (es : List Equation) (w : IsWellFormedSystem (system_
         is = ap (compile system w) y.2 ∙ x.2;
       }
 
-  rule_reaches : (e : Equation) → Contains system.rules (rule_of e) → (t : Tree Head) (k : ℕ) → FailsAt e.left t k → Reaches (rule_tree (compile system w (rule_of e)) (head_of t, arity_of t)) (args_of t) k
-  rule_reaches e listed (node h args) k fails = failure-reaches w.same w.decides in_symbol_class e.left h args k fails (root_tested system w (rule_of e) listed) _
+  rule_reaches : (e : Equation) → Contains system.rules (rule_of e) → (t : Tree Head) (k : ℕ) → FailsAt rules.classes e.left t k → Reaches (rule_tree (compile system w (rule_of e)) (head_of t, arity_of t)) (args_of t) k
+  rule_reaches e listed (node h args) k fails = failure-reaches w.same w.decides (in_class_of rules.classes) e.left h args k fails (root_tested system w (rule_of e) listed) _
 
-  pub last_reaches : (t : Tree Head) (n : ℕ) → IsLastFailure es t n → Reaches (own system w o t) (args_of t) n
+  pub last_reaches : (t : Tree Head) (n : ℕ) → IsLastFailure rules t n → Reaches (own system w o t) (args_of t) n
   last_reaches t n last =
       let f = furthest (compiled system w) (regular-fit (orthogonal-regular system w o)) (head_of t) (args_of t) (λ rule m. let x = each rule m in (x.0, x.1)) in
       let low : f.n ≤ n = elim f.some [ inl e ↦ omega (arith, e) | inr s ↦ (let x = each s.0 s.1 in let z = reaches-one s.2 x.1 in omega (arith, z, x.2)) ] in
       let high : n ≤ f.n = elim last.some [
         | inl e ↦ omega (arith, e)
         | inr s ↦ (
-            let i = in-map rule_of (get-in es s.0 s.1 s.2) in
+            let i = in-map rule_of (get-in rules.equations s.0 s.1 s.2) in
             f.within (compile system w (rule_of s.1)) (member_of (in-contains (in-map (compile system w) i))) n (rule_reaches s.1 (in-contains i) t n s.3))
       ] in
       let e : f.n ≡ n = omega (arith, low, high) in

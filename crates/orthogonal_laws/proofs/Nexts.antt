@@ -5,7 +5,8 @@ use Rattle.std.proofs.lemmas.Option.{slice_get-map, slice_get_past}
 use Rattle.eq_base.specs.Tree.{Tree, size, nth_subtree}
 use Rattle.eq_base.specs.Pattern.{Substitution, IsInstanceOf}
 use Rattle.eq_base.specs.Rewriting.{System, Rule, Gives, RootStepBy, IsRedexBy, IsRedex, IsNormal}
-use Rattle.eq_base.specs.Meeting.{in_symbol_class}
+use Rattle.eq_base.specs.Meeting.{in_class_of}
+use Rattle.eq_base.specs.RuleList.{RuleList}
 use Rattle.eq_base.specs.Rules.{right_side, rule_of, system_of}
 use Rattle.eq_base.specs.declared.rules.Right.{Right}
 use Rattle.eq_base.specs.declared.head.Head.{Head}
@@ -23,28 +24,28 @@ some_of f (Some x) y is = (x, refl, some_same (f x) y is)
 pub equation_of : (es : List Equation) (number : ℕ) (rule : Rule Head) → slice_get (map rule_of es) number ≡ Some rule → (e : Equation) × (slice_get es number ≡ Some e) × (rule_of e ≡ rule)
 equation_of es number rule is = some_of rule_of (slice_get es number) rule (sym (slice_get-map rule_of es number) ∙ is)
 
-module _ (es : List Equation) (number : ℕ) (e : Equation) (there : slice_get es number ≡ Some e) where
-  pub listed : slice_get (map rule_of es) number ≡ Some (rule_of e)
-  listed = slice_get-map rule_of es number ∙ ap (option_map rule_of) there
+module _ (rules : RuleList) (number : ℕ) (e : Equation) (there : slice_get rules.equations number ≡ Some e) where
+  pub listed : slice_get (map rule_of rules.equations) number ≡ Some (rule_of e)
+  listed = slice_get-map rule_of rules.equations number ∙ ap (option_map rule_of) there
 
   -- what the right side of an equation gives
   abbrev pub RightGives : Values → Right → Substitution Head → Tree Head → Tree Head → Type 0
-  RightGives values right σ t u = Gives (system_of values es) σ (right_side right) t u
+  RightGives values right σ t u = Gives (system_of values rules) σ (right_side right) t u
 
-  pub redex_from_met : (values : Values) (t u : Tree Head) (i : IsInstanceOf in_symbol_class e.left t) → RightGives values e.right i.substitution t u → IsRedexBy (system_of values es) number t
+  pub redex_from_met : (values : Values) (t u : Tree Head) (i : IsInstanceOf (in_class_of rules.classes) e.left t) → RightGives values e.right i.substitution t u → IsRedexBy (system_of values rules) number t
   redex_from_met values t u i g = (u, record { rule = rule_of e; listed = listed; is_instance = record { left = i; right = g } })
 
-  pub match_from_redex : (values : Values) (t : Tree Head) → IsRedexBy (system_of values es) number t → IsInstanceOf in_symbol_class e.left t
+  pub match_from_redex : (values : Values) (t : Tree Head) → IsRedexBy (system_of values rules) number t → IsInstanceOf (in_class_of rules.classes) e.left t
   match_from_redex values t r =
       let by = r.1 in
       let same : by.rule ≡ rule_of e = let a = by.listed in let b = listed in cc in
-      subst (λ (rule : Rule Head). IsInstanceOf in_symbol_class rule.left t) same by.is_instance.left
+      subst (λ (rule : Rule Head). IsInstanceOf (in_class_of rules.classes) rule.left t) same by.is_instance.left
 
-pub no_redex_past : (values : Values) (es : List Equation) (number : ℕ) (t : Tree Head) → length es ≤ number → IsRedexBy (system_of values es) number t → ⊥
-no_redex_past values es number t past r =
+pub no_redex_past : (values : Values) (rules : RuleList) (number : ℕ) (t : Tree Head) → length rules.equations ≤ number → IsRedexBy (system_of values rules) number t → ⊥
+no_redex_past values rules number t past r =
     let by = r.1 in
     let a = by.listed in
-    let b = slice_get-map rule_of es number ∙ ap (option_map rule_of) (slice_get_past es number past) in
+    let b = slice_get-map rule_of rules.equations number ∙ ap (option_map rule_of) (slice_get_past rules.equations number past) in
     cc
 
 -- ---- steps

@@ -6,13 +6,15 @@ use Rattle.std.proofs.lemmas.Option.{slice_get-map, slice_get_within, get_or_fro
 use Rattle.eq_base.specs.Pattern.{Classes}
 use Rattle.eq_base.specs.Rewriting.{Rule}
 use Rattle.eq_base.specs.Rules.{rule_of}
-use Rattle.eq_base.specs.Meeting.{in_symbol_class}
-use Rattle.eq_base.specs.ReadHead.{in_read_class}
+use Rattle.eq_base.specs.Meeting.{in_class_of}
+use Rattle.eq_base.specs.RuleList.{RuleList}
+use Rattle.eq_base.specs.ReadHead.{ReadHead, in_read_class}
+use Rattle.eq_base.specs.declared.head.Head.{Head}
 use Rattle.eq_base.specs.declared.rules.Equation.{Equation}
 use Rattle.eq_base.proofs.Heads.{some_same}
 use Rattle.eq_base.proofs.Mapped.{rule-own}
 use Rattle.symbol_table.specs.Table.{Table, HasOneNumberEach}
-use Rattle.symbol_table.specs.Reading.{read_rule, IsLiveEquation, AreLive}
+use Rattle.symbol_table.specs.Reading.{read_rule, read_classes, IsLiveEquation, AreLive}
 use Rattle.symbol_table.proofs.Numberings.{read_all, head_for, class-read_all, class-head_for, live-rule, live-rule_for}
 use Rattle.regularity.specs.declared.breaks.Break.{Break}
 use Rattle.regularity.specs.Listing.{Lists}
@@ -22,12 +24,12 @@ use Rattle.sequentiality.proofs.Alike.{violations_alike, lists_alike}
 
 -- ---- equations by number, and as they are read
 
-module _ (table : Table) (one : HasOneNumberEach table) (equations : List Equation)
-    (live : AreLive table equations) where
-  live_at : (k : ℕ) (e : Equation) → slice_get equations k ≡ Some e → IsLiveEquation table e
+module _ (table : Table) (one : HasOneNumberEach table) (rules : RuleList)
+    (live : AreLive table rules) where
+  live_at : (k : ℕ) (e : Equation) → slice_get rules.equations k ≡ Some e → IsLiveEquation table e
   live_at k e listed =
-      subst (IsLiveEquation table) (get_or_from_slice_get equations k e e listed)
-      (live k e (slice_get_within equations k e listed))
+      subst (IsLiveEquation table) (get_or_from_slice_get rules.equations k e e listed)
+      (live.equations k e (slice_get_within rules.equations k e listed))
 
   same_read : (e : Equation) → IsLiveEquation table e →
       AreSameBut (read_all table) (head_for table) (rule_of e) (read_rule table e)
@@ -37,30 +39,37 @@ module _ (table : Table) (one : HasOneNumberEach table) (equations : List Equati
       AreSameBut (head_for table) (read_all table) (read_rule table e) (rule_of e)
   same_number e l = record { to = live-rule_for table one e l; back = live-rule table one e l }
 
-  read_alike : AreAlike (read_all table) (head_for table) in_symbol_class in_read_class rule_of
-      (read_rule table) equations equations
+  abbrev in_numbers : Classes Head
+  in_numbers = in_class_of rules.classes
+
+  abbrev in_read : Classes ReadHead
+  in_read = in_read_class (read_classes table rules.classes)
+
+  read_alike : AreAlike (read_all table) (head_for table) in_numbers in_read rule_of
+      (read_rule table) rules.equations rules.equations
   read_alike = record {
-    classes = class-read_all table;
-    classes_back = class-head_for table;
+    classes = class-read_all table one rules.classes live.classes;
+    classes_back = class-head_for table one rules.classes live.classes;
     to = λ k e listed. (e, listed, same_read e (live_at k e listed));
     back = λ k e listed. (e, listed, same_number e (live_at k e listed));
   }
 
   -- equations break the same by number and as they are read
   pub violations_read : (b : Break) →
-      IsViolation in_symbol_class rule_of equations b
-      ↔ IsViolation in_read_class (read_rule table) equations b
+      IsViolation (in_class_of rules.classes) rule_of rules.equations b
+      ↔ IsViolation (in_read_class (read_classes table rules.classes)) (read_rule table) rules.equations b
   violations_read =
-      violations_alike (read_all table) (head_for table) in_symbol_class in_read_class rule_of
-      (read_rule table) equations equations read_alike
+      violations_alike (read_all table) (head_for table) in_numbers in_read rule_of
+      (read_rule table) rules.equations rules.equations read_alike
 
   -- and the lists of what they break are the same
   pub lists_violations_read : (breaks : List Break) →
-      Lists (IsViolation in_symbol_class rule_of equations) breaks
-      ↔ Lists (IsViolation in_read_class (read_rule table) equations) breaks
+      Lists (IsViolation (in_class_of rules.classes) rule_of rules.equations) breaks
+      ↔ Lists (IsViolation (in_read_class (read_classes table rules.classes)) (read_rule table)
+      rules.equations) breaks
   lists_violations_read =
-      lists_alike (read_all table) (head_for table) in_symbol_class in_read_class rule_of
-      (read_rule table) equations equations read_alike
+      lists_alike (read_all table) (head_for table) in_numbers in_read rule_of
+      (read_rule table) rules.equations rules.equations read_alike
 
 -- ---- equations kept otherwise, with the same rules
 

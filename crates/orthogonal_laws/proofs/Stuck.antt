@@ -9,7 +9,8 @@ use Rattle.eq_base.specs.Pattern.{PatternCell, fixed, variable, restricted, IsTe
 use Rattle.eq_base.specs.Testing.{IsPattern, ArePatterns}
 use Rattle.eq_base.specs.Rewriting.{System, IsInstance, RootStepBy, IsRedex, IsFirst}
 use Rattle.eq_base.specs.Rules.{rule_of, system_of}
-use Rattle.eq_base.specs.Meeting.{in_symbol_class, class_number}
+use Rattle.eq_base.specs.Meeting.{in_class_of, class_number}
+use Rattle.eq_base.specs.RuleList.{RuleList}
 use Rattle.eq_base.specs.Operations.{operand, operand_class}
 use Rattle.eq_base.specs.declared.head.Head.{Head}
 use Rattle.eq_base.specs.declared.rules.Op.{Op}
@@ -106,36 +107,36 @@ module _ {H : Type 0} (rules : List (Compiled H)) (start : Label H → Matcher H
 
 -- ---- the first left side that is met
 
-module _ (values : Values) (es : List Equation) (number : ℕ) (t : Tree Head) (m : IsFirstMet es number t) where
+module _ (values : Values) (rules : RuleList) (number : ℕ) (t : Tree Head) (m : IsFirstMet rules number t) where
   -- no equation before it fits
-  none_before : IsFirst (system_of values es) number t
+  none_before : IsFirst (system_of values rules) number t
   none_before k lt r =
-      let e = equation_of es k r.1.rule r.1.listed in
-      m.first k e.0 lt e.1 (match_from_redex es k e.0 e.1 values t r)
+      let e = equation_of rules.equations k r.1.rule r.1.listed in
+      m.first k e.0 lt e.1 (match_from_redex rules k e.0 e.1 values t r)
 
   -- where its right side gives something, it is the first equation that fits
-  pub met_fits : (u : Tree Head) → RightGives es number m.equation m.listed values m.equation.right m.met.substitution t u → IsFirstFit (system_of values es) number t
-  met_fits u g = record { redex = redex_from_met es number m.equation m.listed values t u m.met g; first = none_before }
+  pub met_fits : (u : Tree Head) → RightGives rules number m.equation m.listed values m.equation.right m.met.substitution t u → IsFirstFit (system_of values rules) number t
+  met_fits u g = record { redex = redex_from_met rules number m.equation m.listed values t u m.met g; first = none_before }
 
-  module _ (w : IsWellFormedSystem (system_of values es)) (o : IsOrthogonal (system_of values es)) (regular : AreRegular es) (op : Op) (is : m.equation.right ≡ rights.Schema op) (none : values op t ≡ None) where
+  module _ (w : IsWellFormedSystem (system_of values rules)) (o : IsOrthogonal (system_of values rules)) (regular : AreRegular rules) (op : Op) (is : m.equation.right ≡ rights.Schema op) (none : values op t ≡ None) where
     abbrev system : System Head
-    system = system_of values es
+    system = system_of values rules
 
     here_listed : slice_get system.rules number ≡ Some (rule_of m.equation)
-    here_listed = listed es number m.equation m.listed
+    here_listed = listed rules number m.equation m.listed
 
     here_contained : Contains system.rules (rule_of m.equation)
-    here_contained = in-contains (in-map rule_of (get-in es number m.equation m.listed))
+    here_contained = in-contains (in-map rule_of (get-in rules.equations number m.equation m.listed))
 
     no_result : (u : Tree Head) → IsInstance system (rule_of m.equation) t u → ⊥
     no_result u i =
-        let g : RightGives es number m.equation m.listed values (rights.Schema op) i.left.substitution t u = subst (λ r. RightGives es number m.equation m.listed values r i.left.substitution t u) is i.right in
+        let g : RightGives rules number m.equation m.listed values (rights.Schema op) i.left.substitution t u = subst (λ r. RightGives rules number m.equation m.listed values r i.left.substitution t u) is i.right in
         none-some u (sym none ∙ g)
 
     not_beside : (u : Tree Head) (k : ℕ) (by : RootStepBy system k t u) → number < k → ⊥
     not_beside u k by above =
         ⊎_elim
-        (λ clash. not_both in_symbol_class m.equation.left by.rule.left t (w.patterns (rule_of m.equation) here_contained) (w.patterns by.rule (in-contains (get-in system.rules k by.rule by.listed))) m.met by.is_instance.left clash)
+        (λ clash. not_both (in_class_of rules.classes) m.equation.left by.rule.left t (w.patterns (rule_of m.equation) here_contained) (w.patterns by.rule (in-contains (get-in system.rules k by.rule by.listed))) m.met by.is_instance.left clash)
         (λ same. no_result u ((same.1 t m.met by.is_instance.left u).1 by.is_instance))
         (o.roots number k (rule_of m.equation) by.rule above here_listed by.listed)
 
@@ -156,30 +157,30 @@ module _ (values : Values) (es : List Equation) (number : ℕ) (t : Tree Head) (
     abbrev σ : Substitution Head
     σ = m.met.substitution
 
-    inert_constant : (class : ℕ) (s : Tree Head) → IsConstantOf in_symbol_class class s → HasNoDemandedRedex system s → IsInert (compiled system w) (tree (compiled system w)) s
+    inert_constant : (class : ℕ) (s : Tree Head) → IsConstantOf (in_class_of rules.classes) class s → HasNoDemandedRedex system s → IsInert (compiled system w) (tree (compiled system w)) s
     inert_constant class (node h empty) c none = no_redex-from system w o h empty (no_redex_there (node h empty) none)
     inert_constant class (node h (grow u us)) c none = absurd c
 
-    inert_operand : (x : ℕ) (q : Position) → q ≢ [] → subtree_at m.equation.left q ≡ Some (operand op x) → IsConstantOf in_symbol_class (class_number (operand_class op)) (σ x) → IsInert (compiled system w) (tree (compiled system w)) (σ x)
+    inert_operand : (x : ℕ) (q : Position) → q ≢ [] → subtree_at m.equation.left q ≡ Some (operand op x) → IsConstantOf (in_class_of rules.classes) (class_number (operand_class op)) (σ x) → IsInert (compiled system w) (tree (compiled system w)) (σ x)
     inert_operand x q below stands c =
         inert_constant (class_number (operand_class op)) (σ x) c
         (part_without_demand system w o (rule_of m.equation) here_contained q below (record { part = operand op x; stands = stands; tested = tt }) (σ x) (record { substitution = σ; respects = (c, tt); applied = refl }))
 
     inert_one : (f : Head) → m.equation.left ≡ over_one op f → AreInert (compiled system w) (tree (compiled system w)) (args_of t)
     inert_one f e =
-        let r = subst (λ p. Respects in_symbol_class σ p) e m.met.respects in
+        let r = subst (λ p. Respects (in_class_of rules.classes) σ p) e m.met.respects in
         subst (λ t. AreInert (compiled system w) (tree (compiled system w)) (args_of t)) (ap (apply σ) (sym e) ∙ m.met.applied)
         (inert_operand 0 (0 ∷ []) (λ z. cc) (ap (λ p. subtree_at p (0 ∷ [])) e) r.0, tt)
 
     inert_two : (f : Head) → m.equation.left ≡ over_two op f → AreInert (compiled system w) (tree (compiled system w)) (args_of t)
     inert_two f e =
-        let r = subst (λ p. Respects in_symbol_class σ p) e m.met.respects in
+        let r = subst (λ p. Respects (in_class_of rules.classes) σ p) e m.met.respects in
         subst (λ t. AreInert (compiled system w) (tree (compiled system w)) (args_of t)) (ap (apply σ) (sym e) ∙ m.met.applied)
         (inert_operand 0 (0 ∷ []) (λ z. cc) (ap (λ p. subtree_at p (0 ∷ [])) e) r.0, (inert_operand 1 (1 ∷ []) (λ z. cc) (ap (λ p. subtree_at p (1 ∷ [])) e) r.1.0, tt))
 
     inert_args : AreInert (compiled system w) (tree (compiled system w)) (args_of t)
     inert_args =
-        let a = applied_of es regular number m.equation m.listed op is in
+        let a = applied_of rules regular number m.equation m.listed op is in
         elim (application_shape op a.0) [ inl e ↦ inert_one a.0 (a.1 ∙ e.0) | inr e ↦ inert_two a.0 (a.1 ∙ e.0) ]
 
     -- and where the way down comes to it, there is no demanded redex
@@ -196,25 +197,25 @@ none_of : {X : Type 0} (o : Option X) → (IsSome o → ⊥) → o ≡ None
 none_of None fails = refl
 none_of (Some x) fails = absurd (fails refl)
 
-module _ (table : Table) (values : Values) (by : AreValuesBy table values) (es : List Equation) (number : ℕ) (t : Tree Head) (m : IsFirstMet es number t) (live : IsLiveTerm table t) (e : Equation) (there : slice_get es number ≡ Some e) where
+module _ (table : Table) (values : Values) (by : AreValuesBy table values) (rules : RuleList) (number : ℕ) (t : Tree Head) (m : IsFirstMet rules number t) (live : IsLiveTerm table t) (e : Equation) (there : slice_get rules.equations number ≡ Some e) where
   same : e ≡ m.equation
   same = some_same e m.equation (sym there ∙ m.listed)
 
-  result_of : (right : Right) → HasResult table right t → (u : Tree Head) × RightGives es number m.equation m.listed values right m.met.substitution t u
+  result_of : (right : Right) → HasResult table right t → (u : Tree Head) × RightGives rules number m.equation m.listed values right m.met.substitution t u
   result_of (rights.Tree p) has = (apply m.met.substitution p, refl)
   result_of (rights.Schema op) has = some_of (values op t) ((by op t live).1 has)
 
   -- an equation that has a result is the first that fits
-  pub fits_with : HasResult table e.right t → IsFirstFit (system_of values es) number t
+  pub fits_with : HasResult table e.right t → IsFirstFit (system_of values rules) number t
   fits_with has =
       let u = result_of m.equation.right (subst (λ e. HasResult table e.right t) same has) in
-      met_fits values es number t m u.0 u.1
+      met_fits values rules number t m u.0 u.1
 
-  module _ (w : IsWellFormedSystem (system_of values es)) (o : IsOrthogonal (system_of values es)) (regular : AreRegular es) (whole : Tree Head) (n place : ℕ) (f : IsFollowed (system_of values es) w o whole t n place) where
-    by_right : (right : Right) → m.equation.right ≡ right → (HasResult table right t → ⊥) → HasNoDemandedRedex (system_of values es) whole
+  module _ (w : IsWellFormedSystem (system_of values rules)) (o : IsOrthogonal (system_of values rules)) (regular : AreRegular rules) (whole : Tree Head) (n place : ℕ) (f : IsFollowed (system_of values rules) w o whole t n place) where
+    by_right : (right : Right) → m.equation.right ≡ right → (HasResult table right t → ⊥) → HasNoDemandedRedex (system_of values rules) whole
     by_right (rights.Tree p) is fails = absurd (fails tt)
-    by_right (rights.Schema op) is fails = stuck_end values es number t m w o regular op is (none_of (values op t) (λ some. fails ((by op t live).0 some))) whole n place f
+    by_right (rights.Schema op) is fails = stuck_end values rules number t m w o regular op is (none_of (values op t) (λ some. fails ((by op t live).0 some))) whole n place f
 
     -- where it has none, there is no demanded redex
-    pub stuck_with : (HasResult table e.right t → ⊥) → HasNoDemandedRedex (system_of values es) whole
+    pub stuck_with : (HasResult table e.right t → ⊥) → HasNoDemandedRedex (system_of values rules) whole
     stuck_with fails = by_right m.equation.right refl (λ has. fails (subst (λ e. HasResult table e.right t) (sym same) has))

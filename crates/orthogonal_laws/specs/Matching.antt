@@ -1,19 +1,25 @@
 -- Words of private functions alone: when a left side is met by a tree, and where it is first not met.
 use Rattle.std.specs.Prelude.{◌≡◌, ◌⊎◌, ℕ, suc, ◌+◌, ◌≤◌, List, Some, slice_get}
 use Rattle.eq_base.specs.Tree.{Tree, Forest, node, empty, grow, head_of, arity_of, count, size}
-use Rattle.eq_base.specs.Pattern.{PatternCell, fixed, variable, restricted, Classes, IsConstantOf}
+use Rattle.eq_base.specs.Pattern.{PatternCell, fixed, variable, restricted, Classes}
+use Rattle.eq_base.specs.Pattern.{IsConstantOf, IsInstanceOf}
 use Rattle.eq_base.specs.Testing.{MeetsRoot}
-use Rattle.eq_base.specs.Meeting.{in_symbol_class}
+use Rattle.eq_base.specs.Meeting.{in_class_of}
+use Rattle.eq_base.specs.RuleList.{RuleList}
 use Rattle.eq_base.specs.declared.head.Head as heads
 use Rattle.eq_base.specs.declared.head.Cell as cells
 use Rattle.eq_base.specs.declared.head.Cell.TheVariants.{Head, Var, Class}
 use Rattle.eq_base.specs.declared.rules.Equation.{Equation}
 
 -- the root is what the cell asks for: its head over as many arguments, or a constant of its class
-abbrev pub Stands : cells.Cell → Tree heads.Head → Type 0
-Stands (Head h arity) t = (h ≡ head_of t) × (arity ≡ arity_of t)
-Stands (Var x) t = Unit {0}
-Stands (Class x class) t = IsConstantOf in_symbol_class class t
+abbrev pub Stands : List (List heads.Head) → cells.Cell → Tree heads.Head → Type 0
+Stands classes (Head h arity) t = (h ≡ head_of t) × (arity ≡ arity_of t)
+Stands classes (Var x) t = Unit {0}
+Stands classes (Class x class) t = IsConstantOf (in_class_of classes) class t
+
+-- the tree is an instance of the pattern, whichever heads belong to its classes
+abbrev pub HasShapeOf : Tree (PatternCell heads.Head) → Tree heads.Head → Type 0
+HasShapeOf p t = (in_class : Classes heads.Head) × IsInstanceOf in_class p t
 
 module _ {H : Type 0} (in_class : Classes H) where
   -- the trees meet the patterns everywhere
@@ -39,12 +45,12 @@ module _ {H : Type 0} (in_class : Classes H) where
         → IsFirstFailure (grow p ps) (grow t ts) n
 
 -- the tree first fails to meet the pattern at the node with this number
-abbrev pub FailsAt : Tree (PatternCell heads.Head) → Tree heads.Head → ℕ → Type 0
-FailsAt p t n = IsFirstFailure in_symbol_class (grow p empty) (grow t empty) n
+abbrev pub FailsAt : List (List heads.Head) → Tree (PatternCell heads.Head) → Tree heads.Head → ℕ → Type 0
+FailsAt classes p t n = IsFirstFailure (in_class_of classes) (grow p empty) (grow t empty) n
 
 -- the tree meets no left side, and the last of the nodes at which it first fails to meet one has this number
-pub record IsLastFailure (equations : List Equation) (t : Tree heads.Head) (n : ℕ) : Type 0 where
-  pub each : (number : ℕ) (e : Equation) → slice_get equations number ≡ Some e → (k : ℕ) × FailsAt e.left t k
-      × (k ≤ n)
-  pub some : (n ≡ 0) ⊎ ((number : ℕ) × (e : Equation) × (slice_get equations number ≡ Some e)
-      × FailsAt e.left t n)
+pub record IsLastFailure (rules : RuleList) (t : Tree heads.Head) (n : ℕ) : Type 0 where
+  pub each : (number : ℕ) (e : Equation) → slice_get rules.equations number ≡ Some e → (k : ℕ)
+      × FailsAt rules.classes e.left t k × (k ≤ n)
+  pub some : (n ≡ 0) ⊎ ((number : ℕ) × (e : Equation) × (slice_get rules.equations number ≡ Some e)
+      × FailsAt rules.classes e.left t n)

@@ -1,20 +1,20 @@
 -- Words of private functions alone: a step at a node, as it is read.
-use Rattle.std.specs.Prelude.{◌≡◌, ℕ, ◌+◌, ◌≤◌, List, [], ◌++◌, length, slice_index_or}
+use Rattle.std.specs.Prelude.{◌≡◌, ℕ, ◌+◌, ◌≤◌, [], ◌++◌, length, slice_index_or}
 use Rattle.eq_base.specs.Limits.{most_text_bytes}
 use Rattle.eq_base.specs.Tree.{Tree, nth_subtree, nth_position, replace_at}
 use Rattle.eq_base.specs.Rewriting.{RootStepBy}
+use Rattle.eq_base.specs.RuleList.{RuleList}
 use Rattle.eq_base.specs.ReadHead.{ReadHead, text}
 use Rattle.eq_base.specs.declared.head.Head.{Head}
 use Rattle.eq_base.specs.declared.head.Head.TheVariants.{Text}
-use Rattle.eq_base.specs.declared.rules.Equation.{Equation}
 use Rattle.symbol_table.specs.Table.{Table}
 use Rattle.symbol_table.specs.Reading.{read, read_head, read_system, IsLiveHead, IsLiveTerm}
 
 -- u, as the new table reads it, is t after the root step at a node by the equation with this number
-pub record IsReadStep (old new : Table) (equations : List Equation) (t : Tree Head) (at number : ℕ)
+pub record IsReadStep (old new : Table) (rules : RuleList) (t : Tree Head) (at number : ℕ)
     (u : Tree Head) : Type 0 where
   pub contractum : Tree ReadHead
-  pub root_step : RootStepBy (read_system old equations) number (nth_subtree (read old t) at) contractum
+  pub root_step : RootStepBy (read_system old rules) number (nth_subtree (read old t) at) contractum
   pub result : read new u ≡ replace_at (read old t) (nth_position (read old t) at) contractum
   pub live : IsLiveTerm new u
 

@@ -1,14 +1,14 @@
 // The laws of rewriting by a well-formed and orthogonal system of rules, each the contract of a function that
 // does nothing.
-ghost use Rattle.std.specs.Prelude.{◌≡◌, ◌≢◌, ◌⊎◌, ◌↔◌, ℕ, suc, Bool, List, ◌<◌, ◌≤◌, [], Contains, IsTrue};
+ghost use Rattle.std.specs.Prelude.{◌≡◌, ◌≢◌, ◌⊎◌, ◌↔◌, ℕ, suc, Bool, ◌<◌, ◌≤◌, [], Contains, IsTrue};
 ghost use Rattle.std.specs.Prelude.{IsFalse};
 ghost use Rattle.eq_base.specs.Tree.{Tree, head_of, Position};
 ghost use Rattle.eq_base.specs.Pattern.{IsInstanceOf};
 ghost use Rattle.eq_base.specs.Testing.{IsTestedAt};
 ghost use Rattle.eq_base.specs.Rewriting.{System, Rule, RootStep, IsRedex, StepAt, IsDerivable, IsNormal};
+ghost use Rattle.eq_base.specs.RuleList.{RuleList};
 ghost use Rattle.eq_base.specs.Rules.{system_of};
 ghost use Rattle.eq_base.specs.ReadHead.{ReadHead};
-ghost use Rattle.eq_base.specs.declared.rules.Equation.{Equation};
 ghost use Rattle.symbol_table.specs.Table.{Table};
 ghost use Rattle.symbol_table.specs.Reading.{read_system};
 ghost use Rattle.sequentiality.specs.Regular.{AreRegular};
@@ -161,32 +161,32 @@ pub fn convertible_meet<H>()
 /// Regular equations give a well-formed and orthogonal system, whatever values operations have: these
 /// read nothing but constants.
 pub fn regular_is_orthogonal()
-    ensures constants { (value_of : Values) (equations : List Equation) → AreRegular equations
-        → ReadConstants value_of equations }
-    ensures lawful { (value_of : Values) (equations : List Equation) → AreRegular equations
-        → IsLawful (system_of value_of equations) }
+    ensures constants { (value_of : Values) (rules : RuleList) → AreRegular rules
+        → ReadConstants value_of rules }
+    ensures lawful { (value_of : Values) (rules : RuleList) → AreRegular rules
+        → IsLawful (system_of value_of rules) }
 {}
 
 /// Regular equations, as they are read by a table in which their numbers are live, give a well-formed and
 /// orthogonal system, with the values of operations.
 pub fn read_is_orthogonal()
-    ensures { (table : Table) (equations : List Equation) → AreRegularIn table equations
-        → IsLawful (read_system table equations) }
+    ensures { (table : Table) (rules : RuleList) → AreRegularIn table rules
+        → IsLawful (read_system table rules) }
 {}
 
 /// Where regular equations, as they are read, lead from a term to a normal form, by steps in any order,
 /// the plain run ends in it. The length of the plain run and its end are fixed by equations and term, and
 /// a term has no second normal form.
 pub fn only_normal_form()
-    ensures found { (table : Table) (equations : List Equation) → AreRegularIn table equations
-        → (t v : Tree ReadHead) → IsDerivable (read_system table equations) t v
-        → IsNormal (read_system table equations) v → (n : ℕ)
-        × HasLength (read_system table equations) t n v }
-    ensures one_run { (table : Table) (equations : List Equation) → AreRegularIn table equations
-        → (t u v : Tree ReadHead) (m n : ℕ) → HasLength (read_system table equations) t m u
-        → HasLength (read_system table equations) t n v → (m ≡ n) × (u ≡ v) }
-    ensures one_end { (table : Table) (equations : List Equation) → AreRegularIn table equations
-        → (t u v : Tree ReadHead) → IsDerivable (read_system table equations) t u
-        → IsNormal (read_system table equations) u → IsDerivable (read_system table equations) t v
-        → IsNormal (read_system table equations) v → u ≡ v }
+    ensures found { (table : Table) (rules : RuleList) → AreRegularIn table rules
+        → (t v : Tree ReadHead) → IsDerivable (read_system table rules) t v
+        → IsNormal (read_system table rules) v → (n : ℕ)
+        × HasLength (read_system table rules) t n v }
+    ensures one_run { (table : Table) (rules : RuleList) → AreRegularIn table rules
+        → (t u v : Tree ReadHead) (m n : ℕ) → HasLength (read_system table rules) t m u
+        → HasLength (read_system table rules) t n v → (m ≡ n) × (u ≡ v) }
+    ensures one_end { (table : Table) (rules : RuleList) → AreRegularIn table rules
+        → (t u v : Tree ReadHead) → IsDerivable (read_system table rules) t u
+        → IsNormal (read_system table rules) u → IsDerivable (read_system table rules) t v
+        → IsNormal (read_system table rules) v → u ≡ v }
 {}

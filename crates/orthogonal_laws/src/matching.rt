@@ -2,12 +2,12 @@
 ghost use Rattle.std.specs.Prelude.{◌≡◌, ◌<◌, ◌≤◌, ◌-◌, ◌↔◌, IsTrue, MatchOption};
 ghost use Rattle.eq_base.specs.Tree.{size, nth_subtree};
 ghost use Rattle.eq_base.specs.Pattern.{IsLinear, IsInstanceOf};
-ghost use Rattle.eq_base.specs.Meeting.{in_symbol_class};
+ghost use Rattle.eq_base.specs.Meeting.{in_class_of};
 ghost use Rattle.sequentiality.specs.Regular.{AreRegular};
 ghost use Rattle.orthogonal_laws.specs.Matching.{Stands, FailsAt};
 ghost use Rattle.orthogonal_laws.specs.Looking.{IsLook};
 
-use eq_base::{Cell, Flat, Pattern, Rules, is_in_class};
+use eq_base::{Cell, Classes, Flat, Pattern, Rules, is_in_class};
 
 /// What the left sides come to at a node.
 #[derive(Clone, Copy)]
@@ -26,7 +26,7 @@ pub fn look_at(rules: &Rules, term: &Flat, at: usize) -> Look
 {
     let mut last = at;
     for equation in 0..rules.len() {
-        match first_mismatch(&rules.equation(equation).left, term, at) {
+        match first_mismatch(rules.classes(), &rules.equation(equation).left, term, at) {
             None => return Look::Meets(equation),
             Some(node) => last = last.max(node),
         }
@@ -36,11 +36,11 @@ pub fn look_at(rules: &Rules, term: &Flat, at: usize) -> Look
 
 /// The first node, in preorder, at which the subterm at a node fails to meet the left side; none
 /// where it is an instance.
-pub fn first_mismatch(left: &Pattern, term: &Flat, at: usize) -> Option<usize>
+pub fn first_mismatch(classes: &Classes, left: &Pattern, term: &Flat, at: usize) -> Option<usize>
     requires linear { IsLinear left.now }
     requires at { at < size term.now }
-    ensures { MatchOption result (IsInstanceOf in_symbol_class left.now (nth_subtree term.now at))
-        (λ node. (at ≤ node) × FailsAt left.now (nth_subtree term.now at) (node - at)) }
+    ensures { MatchOption result (IsInstanceOf (in_class_of classes.now) left.now (nth_subtree term.now at))
+        (λ node. (at ≤ node) × FailsAt classes.now left.now (nth_subtree term.now at) (node - at)) }
 {
     let len = term.len();
     let mut i = 0;
@@ -48,7 +48,7 @@ pub fn first_mismatch(left: &Pattern, term: &Flat, at: usize) -> Option<usize>
     while i < left.len() {
         prove!(node < len);
         let cell = left.cell(i);
-        if !stands_at(cell, term, node) {
+        if !stands_at(classes, cell, term, node) {
             return Some(node);
         }
         if let Cell::Head(_, _) = cell {
@@ -63,13 +63,15 @@ pub fn first_mismatch(left: &Pattern, term: &Flat, at: usize) -> Option<usize>
 }
 
 /// Whether a node is what the cell asks for: its head over as many arguments, or a constant of its class.
-pub fn stands_at(cell: Cell, term: &Flat, node: usize) -> bool
+pub fn stands_at(classes: &Classes, cell: Cell, term: &Flat, node: usize) -> bool
     requires { node < size term.now }
-    ensures { IsTrue result ↔ Stands cell (nth_subtree term.now node) }
+    ensures { IsTrue result ↔ Stands classes.now cell (nth_subtree term.now node) }
 {
     match cell {
         Cell::Head(head, arity) => head == term.head(node) && arity == term.arity(node),
         Cell::Var(_) => true,
-        Cell::Class(_, class) => term.arity(node) == 0 && is_in_class(class, term.head(node)),
+        Cell::Class(_, class) => {
+            term.arity(node) == 0 && is_in_class(classes, class, term.head(node))
+        }
     }
 }

@@ -1,10 +1,10 @@
 // A term after one replacement.
 ghost use Rattle.std.specs.Prelude.{◌≡◌, ◌<◌, ◌≤◌, ◌++◌, OnOk, IfOk, Contains, slice_range};
 ghost use Rattle.eq_base.specs.Tree.{node, empty, size, nth_subtree, nth_position, replace_at, cells};
-ghost use Rattle.eq_base.specs.Pattern.{Substitution, apply, variables, IsInstanceOf};
+ghost use Rattle.eq_base.specs.Pattern.{Substitution, apply, variables};
 ghost use Rattle.eq_base.specs.Cells.{TakesArguments};
-ghost use Rattle.eq_base.specs.Meeting.{in_symbol_class};
 ghost use Rattle.eq_base.specs.declared.head.Head.{Head};
+ghost use Rattle.orthogonal_laws.specs.Matching.{HasShapeOf};
 ghost use Rattle.orthogonal_laws.specs.Replacing.{HasRoom, IsOver};
 
 use eq_base::{Cell, Flat, FlatMaker, Head, NoMemory, Pattern};
@@ -19,7 +19,7 @@ pub fn replace(
     at: usize,
 ) -> Result<Flat, NoMemory>
     requires at { at < size term.now }
-    requires fits { IsInstanceOf in_symbol_class left.now (nth_subtree term.now at) }
+    requires fits { HasShapeOf left.now (nth_subtree term.now at) }
     requires over { IsOver (variables left.now) right.now }
     ensures { IfOk result (λ after. (σ : Substitution Head) → apply σ left.now ≡ nth_subtree term.now at
         → after ≡ replace_at term.now (nth_position term.now at) (apply σ right.now)) }
@@ -68,7 +68,7 @@ fn push_right(
     at: usize,
 ) -> Result<(), NoMemory>
     requires at { at < size term.now }
-    requires fits { IsInstanceOf in_symbol_class left.now (nth_subtree term.now at) }
+    requires fits { HasShapeOf left.now (nth_subtree term.now at) }
     requires over { IsOver (variables left.now) right.now }
     requires room { (σ : Substitution Head) → apply σ left.now ≡ nth_subtree term.now at
         → HasRoom maker.old (cells (apply σ right.now)) }
@@ -93,7 +93,7 @@ fn push_right(
 // The node at which a variable of the left side stands.
 fn find(left: &Pattern, term: &Flat, at: usize, variable: u32) -> usize
     requires at { at < size term.now }
-    requires fits { IsInstanceOf in_symbol_class left.now (nth_subtree term.now at) }
+    requires fits { HasShapeOf left.now (nth_subtree term.now at) }
     requires occurs { Contains (variables left.now) variable }
     ensures there { result < size term.now }
     ensures value { (σ : Substitution Head) → apply σ left.now ≡ nth_subtree term.now at → σ variable

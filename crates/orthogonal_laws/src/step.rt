@@ -1,15 +1,14 @@
 // A step at a node.
 ghost use Rattle.std.specs.Prelude.{◌≡◌, ◌+◌, ◌<◌, Some, IsSome, IsTrue, IfOk};
 ghost use Rattle.eq_base.specs.Tree.{node, empty, head_of, size, nth_subtree};
-ghost use Rattle.eq_base.specs.Pattern.{IsInstanceOf};
 ghost use Rattle.eq_base.specs.Rewriting.{IsRedexBy};
-ghost use Rattle.eq_base.specs.Meeting.{in_symbol_class};
 ghost use Rattle.eq_base.specs.Operations.{application, compares, value_of};
 ghost use Rattle.eq_base.specs.declared.head.Head.{Head};
 ghost use Rattle.eq_base.specs.declared.meeting.SymbolClass.TheVariants.{TruthValues};
 ghost use Rattle.symbol_table.specs.Table.{HasOneNumberEach, Includes, Keeps};
 ghost use Rattle.symbol_table.specs.Reading.{read, read_head, read_system, AreLive, IsLiveHead, IsLiveTerm};
 ghost use Rattle.sequentiality.specs.Regular.{AreRegular};
+ghost use Rattle.orthogonal_laws.specs.Matching.{HasShapeOf};
 ghost use Rattle.orthogonal_laws.specs.Operations.{AreTruthsKnown};
 ghost use Rattle.orthogonal_laws.specs.Stepping.{IsReadStep, AreJoined, IsJoined};
 
@@ -61,7 +60,7 @@ fn value_head(op: Op, symbols: &mut Symbols, term: &Flat, at: usize) -> Result<H
     requires live { IsLiveTerm symbols.old term.now }
     requires at { at < size term.now }
     requires applied { (f : Head)
-        × IsInstanceOf in_symbol_class (application op f) (nth_subtree term.now at) }
+        × HasShapeOf (application op f) (nth_subtree term.now at) }
     requires some { IsSome (value_of op (read symbols.old (nth_subtree term.now at))) }
     ensures ok { IfOk result (λ head. IsLiveHead symbols.new head
         × (value_of op (read symbols.old (nth_subtree term.now at))

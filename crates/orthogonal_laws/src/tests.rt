@@ -3,14 +3,14 @@ ghost use Rattle.std.specs.Prelude.{◌≡◌, ◌+◌, ◌≤◌, IsTrue, lengt
 ghost use Rattle.eq_base.specs.Cells.{kind_of, CellTakesArguments};
 ghost use Rattle.symbol_table.specs.Table.{IsLive};
 ghost use Rattle.symbol_table.specs.Reading.{IsLiveHead, IsLiveTerm, IsLiveCell, IsLivePattern};
-ghost use Rattle.symbol_table.specs.Reading.{IsLiveEquation, AreLive};
+ghost use Rattle.symbol_table.specs.Reading.{IsLiveEquation, AreLiveClasses, AreLive};
 ghost use Rattle.orthogonal_laws.specs.Operations.{AreTruthsKnown};
 
 use crate::{Next, PlainEnd, first_past, plain_next, plain_run};
 use builtin::schema_left;
 use eq_base::{
-    Cell, Equation, Flat, FlatMaker, Head, NoMemory, Op, Origin, Pattern, PatternMaker, Right,
-    Rules, same_tree,
+    Cell, Classes, Equation, FIRST_CLASS, Flat, FlatMaker, Head, NoMemory, Op, Origin, Pattern,
+    PatternMaker, Right, Rules, same_tree,
 };
 use regularity::are_well_formed;
 use sequentiality::Regular;
@@ -21,8 +21,9 @@ use symbol_table::{SymbolError, Symbols};
 // The number behind those of the symbols.
 const END: u8 = 24;
 
-// Terms and equations in a short notation: a letter for each cell in preorder. X and Y are variables, M is the
-// greatest numeral, A an atom, and T, U and V are strings. The small letters are the symbols, eight for each
+// Terms and equations in a short notation: a letter for each cell in preorder. X and Y are variables, C is a
+// variable of the class of the file, which lists 2 and an atom, M is the greatest numeral, A an atom, and T, U
+// and V are strings. The small letters are the symbols, eight for each
 // number of arguments: a and b are the truth values.
 fn cell_of(letter: u8) -> Cell
     ensures { CellTakesArguments result }
@@ -36,6 +37,7 @@ fn cell_of(letter: u8) -> Cell
         b'M' => Cell::Head(Head::Numeral(i128::MAX), 0),
         b'A' => Cell::Head(Head::Atom(0), 0),
         b'T'..=b'V' => Cell::Head(Head::Text(usize::from(letter - b'T')), 0),
+        b'C' => Cell::Class(u32::from(letter), FIRST_CLASS),
         _ => Cell::Var(u32::from(letter)),
     }
 }
@@ -86,7 +88,11 @@ fn add_operation(alloc: Global, rules: &mut Rules, op: Op, symbol: u8) -> Result
 
 // Equations with these sides, and those of operations, if they are equations.
 fn rules_of(alloc: Global, sides: &[(&str, &str)]) -> Result<Option<Rules>, NoMemory> {
-    let mut rules = Rules::new(alloc);
+    let mut classes = Classes::new(alloc);
+    let class = classes.begin()?;
+    classes.add(class, Head::Numeral(2))?;
+    classes.add(class, Head::Atom(0))?;
+    let mut rules = Rules::new(alloc, classes);
     for (left, right) in sides {
         let Some(left) = pattern(alloc, left)? else {
             return Ok(None);
@@ -176,6 +182,21 @@ fn are_live(rules: &Rules, symbols: &Symbols) -> bool
 {
     for number in 0..rules.len() {
         if !is_live_equation(rules.equation(number), symbols) {
+            return false;
+        }
+    }
+    are_live_classes(rules.classes(), symbols)
+}
+
+// Whether there is one class, and each of its members is live.
+fn are_live_classes(classes: &Classes, symbols: &Symbols) -> bool
+    ensures { IsTrue result → AreLiveClasses symbols.now classes.now }
+{
+    if classes.len() != 1 {
+        return false;
+    }
+    for number in 0..classes.members(FIRST_CLASS) {
+        if !is_live_head(classes.member(FIRST_CLASS, number), symbols) {
             return false;
         }
     }
@@ -295,6 +316,8 @@ fn runs_end_as_written(rt: HostRuntime) -> Result<(), Fail> {
         ("d", "d"),
         ("rXe", "f"),
         ("jX", "e"),
+        // What belongs to a class stays, and nothing else.
+        ("kC", "C"),
     ];
     let rows = [
         ("qiicic", "iiic", 3, None),
@@ -306,6 +329,10 @@ fn runs_end_as_written(rt: HostRuntime) -> Result<(), Fail> {
         ("vTU", "b", 1, None),
         // The joined string gets the first number that is free.
         ("uTU", "V", 1, None),
+        ("kk2", "2", 2, None),
+        ("kkA", "A", 2, None),
+        ("k3", "k3", 0, None),
+        ("kT", "kT", 0, None),
     ];
     let Some(regular) = admitted(alloc, &sides)? else {
         panic!(rt; "these are not regular");

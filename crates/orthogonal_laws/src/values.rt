@@ -1,14 +1,13 @@
 // Whether an equation that is met at a node gives something there, and what an operation gives.
 ghost use Rattle.std.specs.Prelude.{◌≡◌, ◌<◌, ◌↔◌, IsTrue};
 ghost use Rattle.eq_base.specs.Tree.{head_of, size, nth_subtree};
-ghost use Rattle.eq_base.specs.Pattern.{IsInstanceOf};
-ghost use Rattle.eq_base.specs.Meeting.{in_symbol_class};
 ghost use Rattle.eq_base.specs.Operations.{application, application_value};
 ghost use Rattle.eq_base.specs.declared.head.Head.{Head};
 ghost use Rattle.builtin.specs.Values.{IsRead, IsValue};
 ghost use Rattle.symbol_table.specs.Table.{HasOneNumberEach};
 ghost use Rattle.symbol_table.specs.Reading.{read_head, read, IsLiveTerm};
 ghost use Rattle.regularity.specs.WellFormed.{IsApplicationOf};
+ghost use Rattle.orthogonal_laws.specs.Matching.{HasShapeOf};
 ghost use Rattle.orthogonal_laws.specs.Results.{HasResult, HasNumberOf};
 
 use builtin::{Operand, Value, evaluate};
@@ -21,7 +20,7 @@ pub fn has_result(equation: &Equation, symbols: &Symbols, term: &Flat, at: usize
     requires distinct { HasOneNumberEach symbols.now }
     requires live { IsLiveTerm symbols.now term.now }
     requires at { at < size term.now }
-    requires met { IsInstanceOf in_symbol_class equation.now.left (nth_subtree term.now at) }
+    requires met { HasShapeOf equation.now.left (nth_subtree term.now at) }
     requires applied { IsApplicationOf equation.now }
     ensures { IsTrue result ↔ HasResult symbols.now equation.now.right (nth_subtree term.now at) }
 {
@@ -40,7 +39,7 @@ pub fn value_at(op: Op, symbols: &Symbols, term: &Flat, at: usize) -> Value
     requires live { IsLiveTerm symbols.now term.now }
     requires at { at < size term.now }
     requires applied { (f : Head)
-        × IsInstanceOf in_symbol_class (application op f) (nth_subtree term.now at) }
+        × HasShapeOf (application op f) (nth_subtree term.now at) }
     ensures { IsValue (application_value op (read symbols.now (nth_subtree term.now at))) result }
 {
     let len = term.len();

@@ -1,15 +1,17 @@
 -- What the program holds, as its table reads it.
-use Rattle.std.proofs.Common.{◌≡◌, List, [], ◌∷◌, map, take, Option, Some, None, Result, Ok, Err, refl, sym, ap, ◌∙◌, subst}
+use Rattle.std.proofs.Common.{◌≡◌, ◌<◌, List, [], ◌∷◌, map, length, take, Option, Some, None, Result, Ok, Err, refl, sym, ap, ◌∙◌, subst}
 use Rattle.std.specs.Prelude.{slice_get, option_map}
 use Rattle.std.specs.List.{AllByRecursion}
 use Rattle.std.proofs.lemmas.Simd.{map-map}
+use Rattle.std.proofs.lemmas.List.{length-map}
 use Rattle.std.proofs.lemmas.Option.{slice_get-map}
 use Rattle.eq_base.specs.ReadHead.{ReadHead, symbol}
+use Rattle.eq_base.specs.RuleList.{RuleList}
 use Rattle.eq_base.specs.declared.head.Head.{Head}
 use Rattle.eq_base.specs.declared.head.Head.TheVariants.{Symbol}
 use Rattle.eq_base.specs.declared.rules.Equation.{Equation as EquationValue}
 use Rattle.symbol_table.specs.Table.{Table, names_of}
-use Rattle.symbol_table.specs.Reading.{read_head}
+use Rattle.symbol_table.specs.Reading.{read_head, read_classes}
 use Rattle.def_file.specs.declared.definitions.Qualifier.{Qualifier}
 use Rattle.def_file.specs.declared.definitions.Item.{Item}
 use Rattle.def_file.specs.declared.definitions.Item.TheVariants as item
@@ -66,15 +68,22 @@ module _ (d : Definitions) where
   numbers_read : map (λ (n : NumberedOf ReadHead). n.number) (map (numbered_read d.symbols) d.items) ≡ map (λ (n : NumberedOf Head). n.number) (items_held d.items)
   numbers_read = map-map (λ (n : NumberedOf ReadHead). n.number) (numbered_read d.symbols) d.items ∙ sym (map-map (λ (n : NumberedOf Head). n.number) numbered_held d.items)
 
+  filled_held : (classes : List (List Head)) → AllByRecursion (λ (members : List ReadHead). 0 < length members) (read_classes d.symbols classes) → AllByRecursion (λ (members : List Head). 0 < length members) classes
+  filled_held [] all = tt
+  filled_held (members ∷ classes) all = (subst (λ n. 0 < n) (length-map members f) all.0, filled_held classes all.1)
+
   pub proper_held : AreProper (definitions_read d) → AreProper (definitions_held d)
   proper_held p = record {
     names = p.names;
-    items = proper_items-unmap f (names_of d.symbols) (items_held d.items) (subst (AllByRecursion (λ (n : NumberedOf ReadHead). IsProperItem (names_of d.symbols) n.item)) (items_read d.symbols d.items) p.items);
+    filled = filled_held d.classes p.filled;
+    items = subst (λ count. AllByRecursion (λ (n : NumberedOf Head). IsProperItem count (names_of d.symbols) n.item) (items_held d.items)) (length-map d.classes (λ (members : List Head). map f members))
+        (proper_items-unmap f (length (read_classes d.symbols d.classes)) (names_of d.symbols) (items_held d.items) (subst (AllByRecursion (λ (n : NumberedOf ReadHead). IsProperItem (length (read_classes d.symbols d.classes)) (names_of d.symbols) n.item)) (items_read d.symbols d.items) p.items));
     numbers = subst AreAscending numbers_read p.numbers;
   }
 
-  expansion_is_read : (es : List EquationValue) → IsExpansionOf d (Ok es) → IsExpansion (definitions_read d) (plain_equations d.symbols es)
-  expansion_is_read es (expands, parts) =
+  expansion_is_read : (rules : RuleList) → IsExpansionOf d (Ok rules) → IsExpansion (definitions_read d) (plain_equations d.symbols rules.equations)
+  expansion_is_read rules (expands, parts, classes) =
+      let es = rules.equations in
       let table = names_of d.symbols in
       let mapped = expands-map f Symbol symbol (λ n. refl) table [] (items_held d.items) (map unnumbered_held es) expands in
       record {
@@ -83,8 +92,8 @@ module _ (d : Definitions) where
       }
 
   -- the answer by numbers is the answer by what is read
-  pub answer_is_read : (r : Result (List EquationValue) FileError) → AnswersRight (IsExpansionOf d) r → AnswersRight (IsExpanding (definitions_read d)) (expansion_read d.symbols r)
-  answer_is_read (Ok es) is = expansion_is_read es is
+  pub answer_is_read : (r : Result RuleList FileError) → AnswersRight (IsExpansionOf d) r → AnswersRight (IsExpanding (definitions_read d)) (expansion_read d.symbols r)
+  answer_is_read (Ok rules) is = expansion_is_read rules is
   answer_is_read (Err (Refused fault)) h =
       let table = names_of d.symbols in
       subst (λ l. FaultsFirst symbol table [] l fault) (sym (items_read d.symbols d.items)) (faults-map f Symbol symbol (λ n. refl) table [] (items_held d.items) fault h)

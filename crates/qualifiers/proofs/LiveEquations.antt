@@ -7,6 +7,7 @@ use Rattle.eq_base.specs.Tree.{Tree, Forest, node, empty, grow, AllHeadsIn}
 use Rattle.eq_base.specs.Pattern.{PatternCell, fixed, variable, restricted, variables, all_variables}
 use Rattle.eq_base.specs.Rules.{right_side}
 use Rattle.eq_base.specs.Operations.{application}
+use Rattle.eq_base.specs.RuleList.{RuleList}
 use Rattle.eq_base.specs.declared.head.Head.{Head}
 use Rattle.eq_base.specs.declared.head.Head.TheVariants.{Symbol}
 use Rattle.eq_base.specs.declared.rules.Op.{Op}
@@ -16,7 +17,7 @@ use Rattle.eq_base.specs.declared.rules.Right.TheVariants as rights
 use Rattle.eq_base.specs.declared.rules.Equation.{Equation}
 use Rattle.eq_base.proofs.Lists.{all_both, all_at}
 use Rattle.symbol_table.specs.Table.{Table, IsLive, names_of}
-use Rattle.symbol_table.specs.Reading.{IsLiveCell, IsLivePattern, IsLiveRight, IsLiveEquation, AreLive}
+use Rattle.symbol_table.specs.Reading.{IsLiveCell, IsLivePattern, IsLiveRight, IsLiveEquation, AreLiveEquations, AreLiveClasses, AreLive}
 use Rattle.def_file.specs.declared.definitions.Qualifier.{Qualifier}
 use Rattle.def_file.specs.declared.definitions.Item.{Item}
 use Rattle.def_file.specs.declared.definitions.Item.TheVariants as item
@@ -102,9 +103,12 @@ module _ (table : Table) where
   live_equation : (e : Equation) → IsLiveUnnumbered (unnumbered_held e) → IsLiveEquation table e
   live_equation e live = record { left = live.0; right = live_right e.right live.1 }
 
-  live_equations : (es : List Equation) → AllByRecursion IsLiveUnnumbered (map unnumbered_held es) → AreLive table es
+  live_equations : (es : List Equation) → AllByRecursion IsLiveUnnumbered (map unnumbered_held es) → AreLiveEquations table es
   live_equations es live = λ n d lt. all_at (IsLiveEquation table) es n d lt (all_unmapped (IsLiveEquation table) IsLiveUnnumbered unnumbered_held live_equation es live)
 
-pub live_expansion : (d : Definitions) (r : Result (List Equation) FileError) → AreLiveItems d.symbols d.items → AnswersRight (IsExpansionOf d) r → IfOk r (AreLive d.symbols)
-live_expansion d (Ok es) live is = live_equations d.symbols es (live_expanded d.symbols d.items (map unnumbered_held es) live is.0)
-live_expansion d (Err e) live is = tt
+pub live_expansion : (d : Definitions) (r : Result RuleList FileError) → AreLiveItems d.symbols d.items → AreLiveClasses d.symbols d.classes → AnswersRight (IsExpansionOf d) r → IfOk r (AreLive d.symbols)
+live_expansion d (Ok rules) live members is = record {
+  classes = subst (AreLiveClasses d.symbols) (sym is.2) members;
+  equations = live_equations d.symbols rules.equations (live_expanded d.symbols d.items (map unnumbered_held rules.equations) live is.0);
+}
+live_expansion d (Err e) live members is = tt

@@ -323,8 +323,8 @@ module _ {A B : Type 0} (f : A → B) where
   parts-map : (w : EquationOf A) → parts_of (map_equation w) ≡ map (map_pattern f) (parts_of w)
   parts-map w = ap (λ l. map_pattern f w.left ∷ map_pattern f w.right ∷ l) (alternatives-map w.qualifiers)
 
-  proper-unmap : (w : EquationOf A) → IsProper (map_equation w) → IsProper w
-  proper-unmap w p =
+  proper-unmap : (count : ℕ) (w : EquationOf A) → IsProper count (map_equation w) → IsProper count w
+  proper-unmap count w p =
       let parts = parts-map w in
       record {
         distinct = subst (λ l. IsDistinct nat_eq l) (map-map (λ (q : QualifierOf B). q.variable) map_qualifier w.qualifiers) p.distinct;
@@ -332,12 +332,12 @@ module _ {A B : Type 0} (f : A → B) where
         class_of = p.class_of;
         classes = all_unmapped (HasClasses p.class_of) (HasClasses p.class_of) (map_pattern f) (classes-unmap p.class_of) (parts_of w) (subst (AllByRecursion (HasClasses p.class_of)) parts p.classes);
         free = all_unmapped (λ (q : QualifierOf A). IsFree p.class_of q.variable q.choices) (λ (q : QualifierOf B). IsFree p.class_of q.variable q.choices) map_qualifier (λ q free. free-unmap p.class_of q.variable q.choices free) w.qualifiers p.free;
-        symbol_classes = p.symbol_classes;
+        known = p.known;
       }
 
-  proper_item-unmap : (table : Table) (i : ItemOf A) → IsProperItem table (map_item i) → IsProperItem table i
-  proper_item-unmap table (Equation w) p = proper-unmap w p
-  proper_item-unmap table (Class op byte) p = p
+  proper_item-unmap : (count : ℕ) (table : Table) (i : ItemOf A) → IsProperItem count table (map_item i) → IsProperItem count table i
+  proper_item-unmap count table (Equation w) p = proper-unmap count w p
+  proper_item-unmap count table (Class op byte) p = p
 
-  pub proper_items-unmap : (table : Table) (ns : List (NumberedOf A)) → AllByRecursion (λ (n : NumberedOf B). IsProperItem table n.item) (map map_numbered ns) → AllByRecursion (λ (n : NumberedOf A). IsProperItem table n.item) ns
-  proper_items-unmap table ns all = all_unmapped (λ (n : NumberedOf A). IsProperItem table n.item) (λ (n : NumberedOf B). IsProperItem table n.item) map_numbered (λ n. proper_item-unmap table n.item) ns all
+  pub proper_items-unmap : (count : ℕ) (table : Table) (ns : List (NumberedOf A)) → AllByRecursion (λ (n : NumberedOf B). IsProperItem count table n.item) (map map_numbered ns) → AllByRecursion (λ (n : NumberedOf A). IsProperItem count table n.item) ns
+  proper_items-unmap count table ns all = all_unmapped (λ (n : NumberedOf A). IsProperItem count table n.item) (λ (n : NumberedOf B). IsProperItem count table n.item) map_numbered (λ n. proper_item-unmap count table n.item) ns all

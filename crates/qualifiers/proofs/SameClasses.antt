@@ -1,5 +1,5 @@
 -- In the equations of an expansion each variable stands with one class on both sides; so instances are root steps.
-use Rattle.std.proofs.Common.{ℕ, List, [], ◌∷◌, ◌++◌, map, Option, refl, sym, ap, ◌∙◌, subst, ◌↔◌}
+use Rattle.std.proofs.Common.{ℕ, List, [], ◌∷◌, ◌++◌, map, length, Option, refl, sym, ap, ◌∙◌, subst, ◌↔◌}
 use Rattle.std.specs.Prelude.{Contains, Some}
 use Rattle.std.specs.List.{AllByRecursion}
 use Rattle.std.proofs.lemmas.List.Elements.{Contains-append_left, Contains-append_right}
@@ -67,7 +67,7 @@ module _ {H : Type 0} where
 
   -- ---- the equations of an expansion have proper sides
 
-  module _ (in_class : Classes H) (w : EquationOf H) (proper : IsProper w) (none : HaveNoCircle w.qualifiers) where
+  module _ (in_class : Classes H) (w : EquationOf H) {count : ℕ} (proper : IsProper count w) (none : HaveNoCircle w.qualifiers) where
     -- the equation of a choice
     choice_proper : (number : ℕ) (choice : Choice H) → Contains (choices_of w.qualifiers) choice → (e : Unnumbered H) → IsOfChoice w number choice e → IsProperOne e
     choice_proper number choice listed e of =
@@ -86,9 +86,9 @@ module _ {H : Type 0} where
         } in
         subst IsProperOne (sym of.is) sides
 
-  module _ (symbol_head : ℕ → H) (in_class : Classes H) (table : Table) where
+  module _ (symbol_head : ℕ → H) (in_class : Classes H) (count : ℕ) (table : Table) where
     -- the equations of an item
-    given_proper : (number : ℕ) (i : ItemOf H) (es : List (Unnumbered H)) → IsProperItem table i → HasNoCircle i → Gives symbol_head table number i es → AllByRecursion IsProperOne es
+    given_proper : (number : ℕ) (i : ItemOf H) (es : List (Unnumbered H)) → IsProperItem count table i → HasNoCircle i → Gives symbol_head table number i es → AllByRecursion IsProperOne es
     given_proper number (Equation w) es proper none gives =
         all_of IsProperOne es (λ e listed.
         let (choice, from, of) = related_from (IsOfChoice w number) (choices_of w.qualifiers) es gives e listed in
@@ -97,7 +97,7 @@ module _ {H : Type 0} where
         subst (AllByRecursion IsProperOne) (sym is) (subst IsProperOne (sym of.is) tt, tt)
 
     -- those of one item after another
-    expanded_proper : (before : List (Unnumbered H)) (ns : List (NumberedOf H)) (es : List (Unnumbered H)) → AllByRecursion (λ (n : NumberedOf H). IsProperItem table n.item) ns → Expands symbol_head table before ns es → AllByRecursion IsProperOne es
+    expanded_proper : (before : List (Unnumbered H)) (ns : List (NumberedOf H)) (es : List (Unnumbered H)) → AllByRecursion (λ (n : NumberedOf H). IsProperItem count table n.item) ns → Expands symbol_head table before ns es → AllByRecursion IsProperOne es
     expanded_proper before [] es proper is = subst (AllByRecursion IsProperOne) (sym is) tt
     expanded_proper before (n ∷ ns) es proper (front, back, split, adds, rest) =
         subst (AllByRecursion IsProperOne) (sym split)
@@ -107,7 +107,7 @@ module _ {H : Type 0} where
   pub expansion_proper : (symbol_head : ℕ → H) (in_class : Classes H) (d : DefinitionsOf H) (equations : List (PlainEquation H)) → AreProper d → IsExpansion symbol_head d equations → (e : PlainEquation H) → Contains equations e → IsProperRule e.rule.left e.rule.right
   expansion_proper symbol_head in_class d equations proper is e listed =
       all_contained IsProperOne (map unnumbered equations) (unnumbered e)
-      (expanded_proper symbol_head in_class d.names [] d.items (map unnumbered equations) proper.items is.expands)
+      (expanded_proper symbol_head in_class (length d.classes) d.names [] d.items (map unnumbered equations) proper.items is.expands)
       (contains_map unnumbered equations e listed)
 
   -- ---- instances and root steps

@@ -1,8 +1,10 @@
 -- What a file says keeps what its expansion asks.
-use Rattle.std.proofs.Common.{◌≡◌, ℕ, ◌+◌, ◌<◌, ◌≤◌, false, List, [], ◌∷◌, ◌++◌, map, Option, Some, None, refl, sym, ap, ◌∙◌, subst, arith, eq-eqb, ⊎_elim}
+use Rattle.std.proofs.Common.{◌≡◌, ℕ, ◌+◌, ◌<◌, ◌≤◌, false, inl, inr, length, List, [], ◌∷◌, ◌++◌, map, Option, Some, None, refl, sym, ap, ◌∙◌, subst, arith, eq-eqb, ⊎_elim}
 use Rattle.std.specs.Prelude.{Contains, nat_eq, slice_get}
 use Rattle.std.specs.List.{AllByRecursion, IsDistinct, flat_map}
 use Rattle.std.proofs.lemmas.Bool.{cases_eq, ne_eqb}
+use Rattle.std.proofs.lemmas.List.{length-map}
+use Rattle.std.proofs.lemmas.Option.{slice_get_within}
 use Rattle.std.proofs.lemmas.List.Elements.{Contains-append_left, Contains-push}
 use Rattle.eq_base.specs.Tree.{Tree, Forest, node, empty, grow, count, map_heads, map_all_heads}
 use Rattle.eq_base.specs.Pattern.{PatternCell, fixed, variable, restricted}
@@ -11,11 +13,13 @@ use Rattle.eq_base.specs.Meeting.{class_number}
 use Rattle.eq_base.specs.ReadHead.{ReadHead}
 use Rattle.eq_base.specs.declared.meeting.SymbolClass.{SymbolClass}
 use Rattle.eq_base.specs.declared.meeting.SymbolClass.TheVariants.{Numerals, Atoms, TruthValues, Strings}
+use Rattle.eq_base.specs.declared.head.Head.{Head}
 use Rattle.eq_base.specs.declared.rules.Op.{Op}
 use Rattle.eq_base.proofs.Lists.{all_front, all_back, all_both, all_map}
 use Rattle.term_lex.specs.declared.token.Token.{Token}
 use Rattle.term_lex.specs.Lexemes.{Lexeme}
 use Rattle.symbol_table.specs.Table.{Table}
+use Rattle.symbol_table.specs.Reading.{read_head, read_classes}
 use Rattle.written_terms.specs.Notation.{Notation}
 use Rattle.written_terms.proofs.Notations.{IsLawful}
 use Rattle.written_terms.specs.Meaning.{MeansTree, MeanTrees}
@@ -23,11 +27,12 @@ use Rattle.def_file.specs.Operations.{operation_name, HasNeeds}
 use Rattle.def_file.specs.AsRead.{ReadQualifier, ReadEquation, ReadNumbered, ReadDefinitions}
 use Rattle.def_file.specs.Trees.{Restriction, InClass, OneOf, Condition, Sides, EquationItem, Equates, IncludesOperations}
 use Rattle.def_file.specs.Pairs.{AreRelated}
-use Rattle.def_file.specs.Names.{Place, Symbol, Variable, Term, Qualified, ClassOf, Operation, Known, nothing_known, token_bytes, Takes, TakesAll, symbol_places, restriction_places, condition_places, item_places, places_of}
+use Rattle.def_file.specs.Names.{Place, Symbol, NewClass, Member, Variable, Term, Qualified, ClassOf, Operation, Known, nothing_known, token_bytes, Takes, TakesAll, symbol_places, listed_places, restriction_places, condition_places, item_places, places_of}
 use Rattle.def_file.specs.Names as names
-use Rattle.def_file.specs.Definitions.{class_of, restricted_to, classed, NamesVariable, IsFirstIn, AreIn, MeansSide, MeanChoices, MeansQualifier, MeansEquation, MeansOperation, MeansItem, MeanItems, Says}
+use Rattle.def_file.specs.Definitions.{class_of, restricted_to, classed, NamesClass, NamesVariable, IsFirstIn, AreIn, MeansSide, MeanChoices, MeansQualifier, MeansEquation, MeansOperation, MeansItem, MeanItems, Says}
 use Rattle.def_file.proofs.OneNaming.{one_operation}
 use Rattle.def_file.proofs.OneAnswer.{says_distinct}
+use Rattle.def_file.proofs.FilledClasses.{file_filled}
 use Rattle.qualifiers.specs.Instances.{parts_of}
 use Rattle.qualifiers.specs.Classes.{HasClasses, HaveClasses, IsFree, IsProper, IsProperItem, AreAscending, AreProper}
 use Rattle.qualifiers.proofs.Members.{contains_none, contains_cases, map_contains, contains_map, all_of}
@@ -86,6 +91,8 @@ module _ (text : List ℕ) (table : Table) where
   abbrev Tells : Place → Type 0
   Tells (Symbol name arity) = ⊥
   Tells (names.Class name) = ⊥
+  Tells (NewClass name) = ⊥
+  Tells (Member class member) = ⊥
   Tells (Variable name) = ⊥
   Tells (Term byte) = Unit {0}
   Tells (Qualified before name) = ¬ Contains (map (token_bytes text) before) (token_bytes text name)
@@ -96,6 +103,8 @@ module _ (text : List ℕ) (table : Table) where
 abbrev IsItemPlace : Place → Type 0
 IsItemPlace (Symbol name arity) = ⊥
 IsItemPlace (names.Class name) = ⊥
+IsItemPlace (NewClass name) = ⊥
+IsItemPlace (Member class member) = ⊥
 IsItemPlace (Variable name) = ⊥
 IsItemPlace (Term byte) = Unit {0}
 IsItemPlace (Qualified before name) = Unit {0}
@@ -136,10 +145,12 @@ module _ (notation : Notation) (text : List ℕ) where
   told : (p : Place) (old new : Known) → IsItemPlace p → Takes notation text old p new → (new.table ≡ old.table) × Tells text old.table p
   told (Symbol name arity) old new is takes = absurd is
   told (names.Class name) old new is takes = absurd is
+  told (NewClass name) old new is takes = absurd is
+  told (Member class member) old new is takes = absurd is
   told (Variable name) old new is takes = absurd is
   told (Term byte) old new is (pattern, end, reads, e) = (ap (λ (k : Known). k.table) e, tt)
   told (Qualified before name) old new is (has, fresh, e) = (ap (λ (k : Known). k.table) e, fresh)
-  told (ClassOf name) old new is (class, named, has, e) = (ap (λ (k : Known). k.table) e, tt)
+  told (ClassOf name) old new is (has, e) = (ap (λ (k : Known). k.table) e, tt)
   told (Operation name) old new is (op, named, fresh, needs, e) = (ap (λ (k : Known). k.table) e, (op, named, needs))
 
   all_told : (ps : List Place) (old new : Known) → AllByRecursion IsItemPlace ps → TakesAll notation text old ps new → (new.table ≡ old.table) × AllByRecursion (Tells text new.table) ps
@@ -248,19 +259,24 @@ module _ (notation : Notation) (text : List ℕ) (known : Known) where
   class_small TruthValues = omega arith
   class_small Strings = omega arith
 
-  small_in : (cs : List Condition) (classes : List (ℕ × ℕ)) → AreIn text known cs classes → (x class : ℕ) → class_of classes x ≡ Some class → class < 4
-  small_in [] classes e x class has = let none : class_of classes x ≡ None = ap (λ l. class_of l x) e in cc
-  small_in (c ∷ cs) classes are x class has = by_restriction c.restriction are (λ l h. small_in cs l h x class)
+  -- a class that has a name is a symbol class or one of the file
+  named_known : (name : List ℕ) (class : ℕ) → NamesClass known.class_names name class → class < 4 + length known.class_names
+  named_known name class (inl (symbol_class, named, is)) = let small = class_small symbol_class in omega (arith, is, small)
+  named_known name class (inr (place, there, is)) = let within = slice_get_within known.class_names place name there in omega (arith, is, within)
+
+  known_in : (cs : List Condition) (classes : List (ℕ × ℕ)) → AreIn text known cs classes → (x class : ℕ) → class_of classes x ≡ Some class → class < 4 + length known.class_names
+  known_in [] classes e x class has = let none : class_of classes x ≡ None = ap (λ l. class_of l x) e in cc
+  known_in (c ∷ cs) classes are x class has = by_restriction c.restriction are (λ l h. known_in cs l h x class)
     where
-      by_restriction : (r : Restriction) → IsFirstIn text known c.variable r (λ rest. AreIn text known cs rest) classes → ((l : List (ℕ × ℕ)) → AreIn text known cs l → class_of l x ≡ Some class → class < 4) → class < 4
-      by_restriction (InClass name) (y, symbol_class, rest, named, spelled, e, later) ih =
-          let whole : class_of ((y, class_number symbol_class) ∷ rest) x ≡ Some class = ap (λ l. class_of l x) (sym e) ∙ has in
+      by_restriction : (r : Restriction) → IsFirstIn text known c.variable r (λ rest. AreIn text known cs rest) classes → ((l : List (ℕ × ℕ)) → AreIn text known cs l → class_of l x ≡ Some class → class < 4 + length known.class_names) → class < 4 + length known.class_names
+      by_restriction (InClass name) (y, number, rest, named, spelled, e, later) ih =
+          let whole : class_of ((y, number) ∷ rest) x ≡ Some class = ap (λ l. class_of l x) (sym e) ∙ has in
           ⊎_elim
           (λ same.
-          let first : class_of ((y, class_number symbol_class) ∷ rest) x ≡ Some (class_number symbol_class) = rw (eq-eqb y x same) refl in
-          let one : class_number symbol_class ≡ class = cc in
-          subst (λ n. n < 4) one (class_small symbol_class))
-          (λ apart. let skipped : class_of ((y, class_number symbol_class) ∷ rest) x ≡ class_of rest x = rw (ne_eqb y x apart) refl in ih rest later (sym skipped ∙ whole))
+          let first : class_of ((y, number) ∷ rest) x ≡ Some number = rw (eq-eqb y x same) refl in
+          let one : number ≡ class = cc in
+          subst (λ n. n < 4 + length known.class_names) one (named_known (token_bytes text name) number spelled))
+          (λ apart. let skipped : class_of ((y, number) ∷ rest) x ≡ class_of rest x = rw (ne_eqb y x apart) refl in ih rest later (sym skipped ∙ whole))
           (cases_eq y x)
       by_restriction (OneOf terms) later ih = ih classes later has
 
@@ -314,7 +330,7 @@ module _ (notation : Notation) (text : List ℕ) (known : Known) where
           all_of (λ (q : ReadQualifier). IsFree (class_of classes) q.variable q.choices) qs
           (λ q listed. let (c, in_cs, m) = related_from Means cs qs h q listed in free_one c in_cs q m)
 
-  equation_proper : (sides : Sides) (w : ReadEquation) → AreApart [] sides.conditions → MeansEquation notation text known sides w → IsProper w
+  equation_proper : (sides : Sides) (w : ReadEquation) → AreApart [] sides.conditions → MeansEquation notation text known sides w → IsProper (length known.class_names) w
   equation_proper sides w apart m =
       let well : AllByRecursion (IsWell m.classes) (parts_of w) = parts_have notation text known sides w m (IsWell m.classes) (side_well m.classes) in
       record {
@@ -323,13 +339,13 @@ module _ (notation : Notation) (text : List ℕ) (known : Known) where
         class_of = class_of m.classes;
         classes = all_map (IsWell m.classes) (HasClasses (class_of m.classes)) (parts_of w) (λ p is. is.1) well;
         free = all_free m.classes sides.conditions apart m.are_in w.qualifiers m.qualifiers;
-        symbol_classes = small_in sides.conditions m.classes m.are_in;
+        known = known_in sides.conditions m.classes m.are_in;
       }
 
   -- ---- one item after another
 
   abbrev IsProperOne : ReadNumbered → Type 0
-  IsProperOne n = IsProperItem known.table n.item
+  IsProperOne n = IsProperItem (length known.class_names) known.table n.item
 
   operations_proper : (number : ℕ) (names : List Token) (ns : List ReadNumbered) → AreRelated (MeansOperation text known number) names ns → AllByRecursion (Tells text known.table) (map Operation names) → AllByRecursion IsProperOne ns
   operations_proper number [] [] h told = tt
@@ -342,7 +358,7 @@ module _ (notation : Notation) (text : List ℕ) (known : Known) where
 
   item_proper : (number : ℕ) (i : EquationItem) (ns : List ReadNumbered) → MeansItem notation text known number i ns → AllByRecursion (Tells text known.table) (item_places i) → AllByRecursion IsProperOne ns
   item_proper number (Equates sides) ns (w, means, e) told =
-      let proper : IsProper w = equation_proper sides w told.1.1 means in
+      let proper : IsProper (length known.class_names) w = equation_proper sides w told.1.1 means in
       subst (AllByRecursion IsProperOne) (sym e) (proper, tt)
   item_proper number (IncludesOperations include names) ns means told = operations_proper number names ns means told
 
@@ -354,15 +370,23 @@ module _ (notation : Notation) (text : List ℕ) (known : Known) where
       (item_proper number i front here (all_front (Tells text known.table) (item_places i) (flat_map item_places is) told))
       (items_proper (number + 1) is back rest (all_back (Tells text known.table) (item_places i) (flat_map item_places is) told)))
 
+filled_read : (table : Table) (classes : List (List Head)) → AllByRecursion (λ (members : List Head). 0 < length members) classes → AllByRecursion (λ (members : List ReadHead). 0 < length members) (read_classes table classes)
+filled_read table [] all = tt
+filled_read table (members ∷ classes) all = (subst (λ n. 0 < n) (sym (length-map members (read_head table))) all.0, filled_read table classes all.1)
+
 -- what a text says is proper
 pub says_proper : {notation : Notation} (laws : IsLawful notation) (text : List ℕ) (d : ReadDefinitions) → Says notation text d → AreProper d
 says_proper {notation = notation} laws text d s =
-    let before = flat_map symbol_places s.file.symbols ++ map Variable s.file.variables in
+    let before = flat_map symbol_places s.file.symbols ++ listed_places s.file in
     let behind = flat_map item_places s.file.items in
     let (mid, takes) = takes_split notation text before behind nothing_known s.known s.names in
     let told = (all_told notation text behind mid s.known (items_are s.file.items) takes).1 in
+    let filled = file_filled notation text s.file s.known s.reads s.names in
+    let count : length s.known.class_names ≡ length d.classes = filled.named ∙ sym (ap length s.classes ∙ length-map s.known.classes (λ (members : List Head). map (read_head s.known.table) members)) in
     record {
       names = says_distinct laws text d s;
-      items = subst (λ (table : Table). AllByRecursion (λ (n : ReadNumbered). IsProperItem table n.item) d.items) (sym s.declared) (items_proper notation text s.known 1 s.file.items d.items s.items told);
+      filled = subst (AllByRecursion (λ (members : List ReadHead). 0 < length members)) (sym s.classes) (filled_read s.known.table s.known.classes filled.filled);
+      items = subst (λ n. AllByRecursion (λ (m : ReadNumbered). IsProperItem n d.names m.item) d.items) count
+          (subst (λ (table : Table). AllByRecursion (λ (n : ReadNumbered). IsProperItem (length s.known.class_names) table n.item) d.items) (sym s.declared) (items_proper notation text s.known 1 s.file.items d.items s.items told));
       numbers = (numbers_ascend notation text s.known 1 s.file.items d.items s.items).1;
     }

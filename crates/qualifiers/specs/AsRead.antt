@@ -2,6 +2,7 @@
 use Rattle.std.specs.Prelude.{List, map, Result, Ok, Err}
 use Rattle.eq_base.specs.ReadHead.{ReadHead, symbol, in_read_class}
 use Rattle.eq_base.specs.Operations.{value_of}
+use Rattle.eq_base.specs.RuleList.{RuleList}
 use Rattle.eq_base.specs.declared.rules.Equation.{Equation}
 use Rattle.term_lex.specs.declared.fault.Fault.{Fault}
 use Rattle.symbol_table.specs.Table.{Table}
@@ -20,7 +21,8 @@ IsExpanding d answer = expansion.IsExpanding symbol d answer
 
 -- the equations have exactly the instances of the definitions
 abbrev pub HaveSameInstances : ReadDefinitions → List (PlainEquation ReadHead) → Type 0
-HaveSameInstances d equations = expansion.HaveSameInstances symbol value_of in_read_class d equations
+HaveSameInstances d equations =
+    expansion.HaveSameInstances symbol value_of (in_read_class d.classes) d equations
 
 -- ---- as a table reads them
 
@@ -31,7 +33,7 @@ abbrev pub plain_equations : Table → List Equation → List (PlainEquation Rea
 plain_equations table equations = map (plain_equation table) equations
 
 -- the answer with its equations as they are read
-abbrev pub expansion_read : {E : Type 0} → Table → Result (List Equation) E
+abbrev pub expansion_read : {E : Type 0} → Table → Result RuleList E
     → Result (List (PlainEquation ReadHead)) E
-expansion_read table (Ok equations) = Ok (plain_equations table equations)
+expansion_read table (Ok rules) = Ok (plain_equations table rules.equations)
 expansion_read table (Err e) = Err e

@@ -50,5 +50,10 @@ origin_held e = e.origin
 
 -- the definitions, which declare and include what their symbols do
 abbrev pub definitions_held : Definitions → DefinitionsOf Head
-definitions_held d =
-    record { names = names_of d.symbols; variables = d.variables; items = items_held d.items }
+definitions_held d = record {
+  names = names_of d.symbols;
+  class_names = d.class_names;
+  classes = d.classes;
+  variables = d.variables;
+  items = items_held d.items;
+}

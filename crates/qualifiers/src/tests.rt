@@ -44,6 +44,8 @@ fn equations(rt: HostRuntime) -> Result<(), Fail> {
         b"Symbols f: 1; a: 0. For all x: f(x) = a where x is either a end or end where.".as_slice();
     let classes =
         b"Symbols h: 1; include integer_numerals. For all n: h(n) = 1 where n is in integer_numerals end where; h(0) = 1.".as_slice();
+    let listed =
+        b"Symbols h: 1; a: 0; b: 0. Classes low: a; high: a, b. For all n: h(n) = n where n is in high end where.".as_slice();
     let arithmetic =
         b"Symbols add: 2; divide: 2; modulo: 2; fst: 2; include integer_numerals. For all x, y: fst(x, y) = x; include addint, divint, modint.".as_slice();
     let nested =
@@ -53,6 +55,7 @@ fn equations(rt: HostRuntime) -> Result<(), Fail> {
         (either, 1, (2, 1, 2, 3, 3)),
         (one, 0, (1, 1, 0, 2, 1)),
         (classes, 1, (2, 2, 0, 2, 1)),
+        (listed, 0, (1, 1, 0, 2, 1)),
         (arithmetic, 0, (4, 1, 0, 3, 1)),
         (arithmetic, 3, (4, 2, 3, 3, 0)),
         (nested, 1, (4, 1, 2, 4, 3)),
@@ -61,6 +64,21 @@ fn equations(rt: HostRuntime) -> Result<(), Fail> {
         assert_eq!(rt; told(rt.alloc(), text, number), Ok(expected));
     }
     Ok(())
+}
+
+/// How many members the second class of a file's rules has.
+fn members(alloc: Global, text: &[u8]) -> Result<usize, FileError> {
+    let rules = expansion(alloc, text)?;
+    if rules.classes().len() < 2 {
+        return Ok(0);
+    }
+    Ok(rules.classes().members(5))
+}
+
+#[test]
+fn classes(rt: HostRuntime) {
+    let text = b"Symbols a: 0; b: 0. Classes low: a; high: a, b. For all: .".as_slice();
+    assert_eq!(rt; members(rt.alloc(), text), Ok(2));
 }
 
 #[test]

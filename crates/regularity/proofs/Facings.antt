@@ -1,9 +1,9 @@
 -- What the facing of two cells says of the scan.
-use Rattle.std.proofs.Common.{◌≡◌, ◌⊎◌, inl, inr, refl, ◌∙◌, ap, subst, ⊎_elim}
+use Rattle.std.proofs.Common.{◌≡◌, ◌⊎◌, inl, inr, List, refl, ◌∙◌, ap, subst, ⊎_elim}
 use Rattle.eq_base.specs.Tree.{Tree, node, head_of}
 use Rattle.eq_base.specs.Pattern.{PatternCell, fixed, variable, restricted, Classes}
 use Rattle.eq_base.specs.Cells.{kind_of, root_cell}
-use Rattle.eq_base.specs.Meeting.{in_symbol_class}
+use Rattle.eq_base.specs.Meeting.{in_class_of}
 use Rattle.eq_base.specs.declared.head.Head.{Head}
 use Rattle.eq_base.specs.declared.head.Cell as cells
 use Rattle.regularity.specs.Facing.{DoClash, IsMismatch, IsSameHead, IsFacing}
@@ -16,11 +16,11 @@ kind_of-root_cell (node (variable x) args) = refl
 kind_of-root_cell (node (restricted x class) args) = refl
 
 -- the facing of two read cells is that of the heads of their subtrees
-pub faced : (p r : Tree (PatternCell Head)) (one other : cells.Cell) (f g : facings.Facing) → one ≡ root_cell p → other ≡ root_cell r → f ≡ g → IsFacing (kind_of one) (kind_of other) f → IsFacing (head_of p) (head_of r) g
-faced p r one other f g e e' is h =
+pub faced : (classes : List (List Head)) (p r : Tree (PatternCell Head)) (one other : cells.Cell) (f g : facings.Facing) → one ≡ root_cell p → other ≡ root_cell r → f ≡ g → IsFacing classes (kind_of one) (kind_of other) f → IsFacing classes (head_of p) (head_of r) g
+faced classes p r one other f g e e' is h =
     let one_is : kind_of one ≡ head_of p = ap kind_of e ∙ kind_of-root_cell p in
     let other_is : kind_of other ≡ head_of r = ap kind_of e' ∙ kind_of-root_cell r in
-    subst (IsFacing (head_of p) (head_of r)) is (subst (λ d. IsFacing (head_of p) d f) other_is (subst (λ c. IsFacing c (kind_of other) f) one_is h))
+    subst (IsFacing classes (head_of p) (head_of r)) is (subst (λ d. IsFacing classes (head_of p) d f) other_is (subst (λ c. IsFacing classes c (kind_of other) f) one_is h))
 
 module _ {H : Type 0} where
   -- one of the cells is no head
@@ -37,9 +37,9 @@ module _ {H : Type 0} where
   same_head_no_clash in_class c d s z = z.2 s.0 (rw s.1 refl) (rw s.2 refl)
 
 -- where neither the cells clash nor are the same head, the scan goes on behind them
-pub passed : (c d : PatternCell Head) (f : facings.Facing) → (f ≡ facing.Mismatch) ⊎ (f ≡ facing.Variable) → IsFacing c d f → (DoClash in_symbol_class c d → ⊥) × HasVariable c d
-passed c d f is h =
+pub passed : (classes : List (List Head)) (c d : PatternCell Head) (f : facings.Facing) → (f ≡ facing.Mismatch) ⊎ (f ≡ facing.Variable) → IsFacing classes c d f → (DoClash (in_class_of classes) c d → ⊥) × HasVariable c d
+passed classes c d f is h =
     ⊎_elim
-    (λ e. let m : IsMismatch c d = subst (IsFacing c d) e h in (mismatch_no_clash in_symbol_class c d m, mismatch_variable c d m))
-    (λ e. let v = subst (IsFacing c d) e h in (v.no_clash, v.variable))
+    (λ e. let m : IsMismatch c d = subst (IsFacing classes c d) e h in (mismatch_no_clash (in_class_of classes) c d m, mismatch_variable c d m))
+    (λ e. let v = subst (IsFacing classes c d) e h in (v.no_clash, v.variable))
     is

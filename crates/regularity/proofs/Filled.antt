@@ -7,7 +7,6 @@ use Rattle.std.proofs.lemmas.List.{append-nil}
 use Rattle.eq_base.specs.Tree.{Tree, Forest, node, empty, grow, head_of, args_of, count, size, nth_subtree, map_heads, map_all_heads, Position, subtree_at, subtree_in}
 use Rattle.eq_base.specs.Storing.{join}
 use Rattle.eq_base.specs.Pattern.{PatternCell, fixed, variable, restricted, Classes, Substitution, variables, all_variables, IsLinear}
-use Rattle.eq_base.specs.Meeting.{in_symbol_class}
 use Rattle.eq_base.specs.declared.head.Head as heads
 use Rattle.eq_base.proofs.Instances.{Fits, FitAll, instance_from_fits}
 use Rattle.eq_base.proofs.Scans.{forest_from, forest_from-start, forest_from-node, forest_from-args, forest_from-end}
@@ -32,8 +31,8 @@ Patterns = Forest (PatternCell heads.Head)
 -- ---- the merge
 
 -- no two cells at one position clash
-abbrev NoClash : Patterns → Patterns → Type 0
-NoClash ps rs = (i : ℕ) (q : Position) (t u : Pattern) → subtree_in ps i q ≡ Some t → subtree_in rs i q ≡ Some u → DoClash in_symbol_class (head_of t) (head_of u) → ⊥
+abbrev NoClash : Classes heads.Head → Patterns → Patterns → Type 0
+NoClash in_class ps rs = (i : ℕ) (q : Position) (t u : Pattern) → subtree_in ps i q ≡ Some t → subtree_in rs i q ≡ Some u → DoClash in_class (head_of t) (head_of u) → ⊥
 
 -- every head is of every class
 abbrev every : Classes (PatternCell heads.Head)
@@ -51,21 +50,21 @@ mutual
   fit_own n (grow p ps) = (fits_own n p, fit_own (n + size p) ps)
 
 -- heads over different numbers of arguments clash
-pub counts_same : (arity : heads.Head → ℕ) (g h : heads.Head) (us vs : Patterns) → count us ≡ arity g → count vs ≡ arity h → (DoClash in_symbol_class (fixed g) (fixed h) → ⊥) → count us ≡ count vs
-counts_same arity g h us vs a b none =
+pub counts_same : (in_class : Classes heads.Head) (arity : heads.Head → ℕ) (g h : heads.Head) (us vs : Patterns) → count us ≡ arity g → count vs ≡ arity h → (DoClash in_class (fixed g) (fixed h) → ⊥) → count us ≡ count vs
+counts_same in_class arity g h us vs a b none =
     ⊎_elim (λ e. e) (λ differ. absurd (none (tt, tt, λ k e f. differ (a ∙ ap arity (e ∙ sym f) ∙ sym b)))) (cases_eq (count us) (count vs))
 
-module _ (arity : heads.Head → ℕ) where
+module _ (in_class : Classes heads.Head) (arity : heads.Head → ℕ) where
   mutual
-    fits_merged : (n : ℕ) (p r : Pattern) → HasArities arity p → HasArities arity r → ((q : Position) (t u : Pattern) → subtree_at p q ≡ Some t → subtree_at r q ≡ Some u → DoClash in_symbol_class (head_of t) (head_of u) → ⊥) → Fits every (map_heads cell_over p) (named n (merge p r))
+    fits_merged : (n : ℕ) (p r : Pattern) → HasArities arity p → HasArities arity r → ((q : Position) (t u : Pattern) → subtree_at p q ≡ Some t → subtree_at r q ≡ Some u → DoClash in_class (head_of t) (head_of u) → ⊥) → Fits every (map_heads cell_over p) (named n (merge p r))
     fits_merged n (node (fixed g) us) (node (fixed h) vs) a b none =
-        (refl, fit_merged (suc n) us vs a.1 b.1 (λ i q t u e f. none (i ∷ q) t u e f) (counts_same arity g h us vs a.0 b.0 (none [] (node (fixed g) us) (node (fixed h) vs) refl refl)))
+        (refl, fit_merged (suc n) us vs a.1 b.1 (λ i q t u e f. none (i ∷ q) t u e f) (counts_same in_class arity g h us vs a.0 b.0 (none [] (node (fixed g) us) (node (fixed h) vs) refl refl)))
     fits_merged n (node (fixed g) us) (node (variable y) vs) a b none = (refl, fit_own (suc n) us)
     fits_merged n (node (fixed g) us) (node (restricted y class) vs) a b none = (refl, fit_own (suc n) us)
     fits_merged n (node (variable x) us) r a b none = tt
     fits_merged n (node (restricted x other) us) r a b none = tt
 
-    fit_merged : (n : ℕ) (ps rs : Patterns) → HaveArities arity ps → HaveArities arity rs → NoClash ps rs → count ps ≡ count rs → FitAll every (map_all_heads cell_over ps) (all_named n (merge_all ps rs))
+    fit_merged : (n : ℕ) (ps rs : Patterns) → HaveArities arity ps → HaveArities arity rs → NoClash in_class ps rs → count ps ≡ count rs → FitAll every (map_all_heads cell_over ps) (all_named n (merge_all ps rs))
     fit_merged n empty empty a b none e = tt
     fit_merged n empty (grow r rs) a b none e = absurd (omega arith)
     fit_merged n (grow p ps) empty a b none e = absurd (omega arith)
@@ -165,10 +164,10 @@ module _ (arity : heads.Head → ℕ) (p : Pattern) (a : HasArities arity p) whe
 
 -- ---- what the variables of a pattern stand for in the merge
 
-pub merge_fills : (p r : Pattern) → AgreeOnArities p r → HaveCommon in_symbol_class p r → ((at : ℕ) → Repeats p at → ⊥) → (θ : Substitution (PatternCell heads.Head)) × (fill θ p ≡ merged p r)
-merge_fills p r agree common none =
+pub merge_fills : (in_class : Classes heads.Head) (p r : Pattern) → AgreeOnArities p r → HaveCommon in_class p r → ((at : ℕ) → Repeats p at → ⊥) → (θ : Substitution (PatternCell heads.Head)) × (fill θ p ≡ merged p r)
+merge_fills in_class p r agree common none =
     let linear = linear_of_single agree.arity p agree.one none in
-    let fits = fits_merged agree.arity 0 p r agree.one agree.other (λ q t u e f clash. common q (clash_at in_symbol_class p r q t u e f clash)) in
+    let fits = fits_merged in_class agree.arity 0 p r agree.one agree.other (λ q t u e f clash. common q (clash_at in_class p r q t u e f clash)) in
     let i = instance_from_fits every (map_heads cell_over p) (merged p r) (rw (variables-over p) linear) fits in
     (i.substitution, i.applied)
 

@@ -1,9 +1,9 @@
 -- What the variables of a pattern stand for in its merge with another.
-use Rattle.std.proofs.Common.{◌≡◌, ℕ, zero, suc, ◌+◌, ◌-◌, ◌<◌, ◌≤◌, true, false, eq-eqb, Option, Some, None, refl, sym, ◌∙◌, ap, subst, arith, ⊎_elim}
+use Rattle.std.proofs.Common.{◌≡◌, ℕ, zero, suc, ◌+◌, ◌-◌, ◌<◌, ◌≤◌, true, false, eq-eqb, Option, Some, None, List, refl, sym, ◌∙◌, ap, subst, arith, ⊎_elim}
 use Rattle.eq_base.specs.Tree.{Tree, node, empty, grow, head_of, arity_of, count, size, nth_subtree}
 use Rattle.eq_base.specs.Pattern.{PatternCell, fixed, variable, restricted, Substitution}
 use Rattle.eq_base.specs.Cells.{root_cell, arity_in}
-use Rattle.eq_base.specs.Meeting.{in_symbol_class}
+use Rattle.eq_base.specs.Meeting.{in_class_of}
 use Rattle.eq_base.specs.declared.head.Head as heads
 use Rattle.eq_base.specs.declared.head.Cell as cells
 use Rattle.eq_base.specs.declared.head.Cell.TheVariants as cell
@@ -148,7 +148,7 @@ named-no_head n (node (restricted y class) ps) none = refl
 start_filled : (left other : Pattern) (θ : Substitution (PatternCell heads.Head)) → fill θ left ≡ merged left other → fill_from θ left 0 ≡ merge_from 0 left other 0 0
 start_filled left other θ e = rw (forest_from-start left, forest_from-start other) (ap (λ t. grow t empty) e)
 
-module _ (left other : Pattern) (x : ℕ) (can : CanMerge left other) where
+module _ {classes : List (List heads.Head)} (left other : Pattern) (x : ℕ) (can : CanMerge classes left other) where
   pub find_start : IsFinding left other x 0 0 0
   find_start = record {
     scanned = scan_start left other Any can.arities;
@@ -179,10 +179,10 @@ module _ (left other : Pattern) (x : ℕ) (can : CanMerge left other) where
     other_have = (subst (HaveArities is.scanned.arity) (forest_from-node other beside find_there) is.scanned.other).0
 
     -- the cells do not clash, where the patterns have a common instance
-    pub find_no_clash : DoClash in_symbol_class (head_of s) (head_of u) → ⊥
+    pub find_no_clash : DoClash (in_class_of classes) (head_of s) (head_of u) → ⊥
     find_no_clash clash =
         let here = scan_here left other Any at beside is.scanned lt find_there in
-        can.common here.at (clash_at in_symbol_class left other here.at here.one here.other here.one_stands here.other_stands (rw (here.one_is, here.other_is) clash))
+        can.common here.at (clash_at (in_class_of classes) left other here.at here.one here.other here.one_stands here.other_stands (rw (here.one_is, here.other_is) clash))
 
     first_filled : (θ : Substitution (PatternCell heads.Head)) → fill θ left ≡ merged left other → fill θ s ≡ named name (merge s u)
     first_filled θ e = firsts_same _ _ _ _ _ _ (fill_passes θ left at lt) (merge_passes name left other at beside lt find_there) (is.filled θ e)

@@ -1,10 +1,11 @@
 -- Equations of well-formed lists.
-use Rattle.std.proofs.Common.{◌≡◌, ℕ, ◌<◌, List, Some, refl, subst}
+use Rattle.std.proofs.Common.{◌≡◌, ℕ, ◌<◌, Some, refl, subst}
 use Rattle.std.specs.Prelude.{slice_get}
 use Rattle.std.specs.List.{AllByRecursion}
 use Rattle.std.proofs.lemmas.Option.{slice_get_within, get_or_from_slice_get}
 use Rattle.eq_base.specs.Tree.{Tree, Forest, node, empty, grow, size, subtrees, all_subtrees, nth_subtree}
 use Rattle.eq_base.specs.Pattern.{PatternCell, fixed, variable, restricted}
+use Rattle.eq_base.specs.RuleList.{RuleList}
 use Rattle.eq_base.specs.declared.rules.Equation.{Equation}
 use Rattle.eq_base.proofs.Lists.{all_both, all_at}
 use Rattle.eq_base.proofs.Trees.{length-subtrees}
@@ -28,20 +29,20 @@ module _ {H : Type 0} (arity : H → ℕ) where
   pub part_has_arities : (p : Tree (PatternCell H)) (k : ℕ) → k < size p → HasArities arity p → HasArities arity (nth_subtree p k)
   part_has_arities p k lt a = all_at (HasArities arity) (subtrees p) k p (rw (length-subtrees p) lt) (subtrees_have p a)
 
-module _ (es : List Equation) (w : AreWellFormed es) where
-  pub well_formed_at : (n : ℕ) (e : Equation) → slice_get es n ≡ Some e → IsWellFormed e
-  well_formed_at n e listed = subst IsWellFormed (get_or_from_slice_get es n e e listed) (w.each n e (slice_get_within es n e listed))
+module _ (rules : RuleList) (w : AreWellFormed rules) where
+  pub well_formed_at : (n : ℕ) (e : Equation) → slice_get rules.equations n ≡ Some e → IsWellFormed e
+  well_formed_at n e listed = subst IsWellFormed (get_or_from_slice_get rules.equations n e e listed) (w.each n e (slice_get_within rules.equations n e listed))
 
-  pub has_arities_at : (n : ℕ) (e : Equation) → slice_get es n ≡ Some e → HasArities w.arity e.left
-  has_arities_at n e listed = subst (λ (d : Equation). HasArities w.arity d.left) (get_or_from_slice_get es n e e listed) (w.arities n e (slice_get_within es n e listed))
+  pub has_arities_at : (n : ℕ) (e : Equation) → slice_get rules.equations n ≡ Some e → HasArities w.arity e.left
+  has_arities_at n e listed = subst (λ (d : Equation). HasArities w.arity d.left) (get_or_from_slice_get rules.equations n e e listed) (w.arities n e (slice_get_within rules.equations n e listed))
 
   -- a part of a left side and a left side agree on the number of arguments
-  pub agree_at_part : (n : ℕ) (e : Equation) (m : ℕ) (d : Equation) → slice_get es n ≡ Some e → slice_get es m ≡ Some d → (k : ℕ) → k < size e.left → AgreeOnArities (nth_subtree e.left k) d.left
+  pub agree_at_part : (n : ℕ) (e : Equation) (m : ℕ) (d : Equation) → slice_get rules.equations n ≡ Some e → slice_get rules.equations m ≡ Some d → (k : ℕ) → k < size e.left → AgreeOnArities (nth_subtree e.left k) d.left
   agree_at_part n e m d listed listed' k lt = record {
     arity = w.arity;
     one = part_has_arities w.arity e.left k lt (has_arities_at n e listed);
     other = has_arities_at m d listed';
   }
 
-  pub agree_at_root : (n : ℕ) (e : Equation) (m : ℕ) (d : Equation) → slice_get es n ≡ Some e → slice_get es m ≡ Some d → AgreeOnArities e.left d.left
+  pub agree_at_root : (n : ℕ) (e : Equation) (m : ℕ) (d : Equation) → slice_get rules.equations n ≡ Some e → slice_get rules.equations m ≡ Some d → AgreeOnArities e.left d.left
   agree_at_root n e m d listed listed' = record { arity = w.arity; one = has_arities_at n e listed; other = has_arities_at m d listed' }

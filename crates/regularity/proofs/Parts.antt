@@ -5,7 +5,8 @@ use Rattle.std.specs.List.{AllByRecursion}
 use Rattle.std.proofs.lemmas.Option.{slice_get_within, get_or_from_slice_get}
 use Rattle.eq_base.specs.Tree.{Tree, Forest, node, empty, grow, head_of, size, subtrees, all_subtrees, nth_subtree}
 use Rattle.eq_base.specs.Pattern.{PatternCell, fixed, variable, restricted, restrictions, all_restrictions}
-use Rattle.eq_base.specs.Meeting.{in_symbol_class}
+use Rattle.eq_base.specs.Meeting.{in_class_of}
+use Rattle.eq_base.specs.RuleList.{RuleList}
 use Rattle.eq_base.specs.declared.head.Head.{Head}
 use Rattle.eq_base.specs.declared.rules.Equation.{Equation}
 use Rattle.eq_base.proofs.Lists.{all_front, all_back, all_both, all_at}
@@ -37,37 +38,37 @@ module _ (p : Tree (PatternCell Head)) (k : ℕ) (lt : k < size p) where
 
 -- ---- classes
 
-module _ (arity : Head → ℕ) where
+module _ (classes : List (List Head)) (arity : Head → ℕ) where
   mutual
-    parts_have : (p : Tree (PatternCell Head)) → HasArities arity p → HaveHeads p → AllByRecursion HaveHeads (subtrees p)
+    parts_have : (p : Tree (PatternCell Head)) → HasArities arity p → HaveHeads classes p → AllByRecursion (HaveHeads classes) (subtrees p)
     parts_have (node (fixed h) ps) a k = (k, all_parts_have ps a.1 k)
     parts_have (node (variable x) ps) a k = (k, rw a tt)
     parts_have (node (restricted x class) ps) a k = (k, rw a tt)
 
-    all_parts_have : (ps : Forest (PatternCell Head)) → HaveArities arity ps → AllHaveHeads ps → AllByRecursion HaveHeads (all_subtrees ps)
+    all_parts_have : (ps : Forest (PatternCell Head)) → HaveArities arity ps → AllHaveHeads classes ps → AllByRecursion (HaveHeads classes) (all_subtrees ps)
     all_parts_have empty a k = tt
     all_parts_have (grow p ps) a k =
-        all_both HaveHeads (subtrees p) (all_subtrees ps)
-        (parts_have p a.0 (all_front HasHead (restrictions p) (all_restrictions ps) k))
-        (all_parts_have ps a.1 (all_back HasHead (restrictions p) (all_restrictions ps) k))
+        all_both (HaveHeads classes) (subtrees p) (all_subtrees ps)
+        (parts_have p a.0 (all_front (HasHead classes) (restrictions p) (all_restrictions ps) k))
+        (all_parts_have ps a.1 (all_back (HasHead classes) (restrictions p) (all_restrictions ps) k))
 
-  part_has_heads : (p : Tree (PatternCell Head)) (k : ℕ) → k < size p → HasArities arity p → HaveHeads p → HaveHeads (nth_subtree p k)
-  part_has_heads p k lt a heads = all_at HaveHeads (subtrees p) k p (rw (length-subtrees p) lt) (parts_have p a heads)
+  part_has_heads : (p : Tree (PatternCell Head)) (k : ℕ) → k < size p → HasArities arity p → HaveHeads classes p → HaveHeads classes (nth_subtree p k)
+  part_has_heads p k lt a heads = all_at (HaveHeads classes) (subtrees p) k p (rw (length-subtrees p) lt) (parts_have p a heads)
 
 -- ---- the law
 
-module _ (es : List Equation) (w : AreWellFormed es) (heads : LeftSidesHaveHeads es) where
-  heads_at : (n : ℕ) (e : Equation) → slice_get es n ≡ Some e → HaveHeads e.left
-  heads_at n e listed = subst (λ (d : Equation). HaveHeads d.left) (get_or_from_slice_get es n e e listed) (heads n e (slice_get_within es n e listed))
+module _ (rules : RuleList) (w : AreWellFormed rules) (heads : LeftSidesHaveHeads rules) where
+  heads_at : (n : ℕ) (e : Equation) → slice_get rules.equations n ≡ Some e → HaveHeads rules.classes e.left
+  heads_at n e listed = subst (λ (d : Equation). HaveHeads rules.classes d.left) (get_or_from_slice_get rules.equations n e e listed) (heads n e (slice_get_within rules.equations n e listed))
 
-  pub part_is_shared : (n m place : ℕ) (one other : Equation) → IsListedSingle es n one → IsListedSingle es m other → place < size one.left → HaveCommon in_symbol_class (nth_subtree one.left place) other.left ↔ HaveSharedInstance (nth_subtree one.left place) other.left
-  part_is_shared n m place one other l l' lt = common_is_shared (nth_subtree one.left place) other.left (record {
+  pub part_is_shared : (n m place : ℕ) (one other : Equation) → IsListedSingle rules n one → IsListedSingle rules m other → place < size one.left → HaveCommon (in_class_of rules.classes) (nth_subtree one.left place) other.left ↔ HaveSharedInstance rules.classes (nth_subtree one.left place) other.left
+  part_is_shared n m place one other l l' lt = common_is_shared rules.classes (nth_subtree one.left place) other.left (record {
     one_linear = λ at r. l.single.linear (place + at) (repeats_there one.left place lt at r);
     other_linear = l'.single.linear;
-    one_classes = part_has_heads w.arity one.left place lt (has_arities_at es w n one l.listed) (heads_at n one l.listed);
+    one_classes = part_has_heads rules.classes w.arity one.left place lt (has_arities_at rules w n one l.listed) (heads_at n one l.listed);
     other_classes = heads_at m other l'.listed;
     arity = w.arity;
-    one = part_has_arities w.arity one.left place lt (has_arities_at es w n one l.listed);
-    other = has_arities_at es w m other l'.listed;
+    one = part_has_arities w.arity one.left place lt (has_arities_at rules w n one l.listed);
+    other = has_arities_at rules w m other l'.listed;
     constants = w.constants;
   })

@@ -1,5 +1,5 @@
 -- Right sides read under the merge, side by side with parts of it and with one another.
-use Rattle.std.proofs.Common.{◌≡◌, ℕ, ◌+◌, ◌<◌, ◌≤◌, None, Some, refl, sym, ◌∙◌, ap, arith}
+use Rattle.std.proofs.Common.{◌≡◌, ℕ, ◌+◌, ◌<◌, ◌≤◌, None, Some, List, refl, sym, ◌∙◌, ap, arith}
 use Rattle.std.specs.Prelude.{◌↔◌}
 use Rattle.eq_base.specs.Tree.{Tree, empty, head_of, arity_of, count, size, nth_subtree}
 use Rattle.eq_base.specs.Pattern.{PatternCell, fixed, Substitution}
@@ -277,7 +277,7 @@ module _ (left right other other_right : Pattern) (at beside : ℕ) (is : Rights
         rights_head left right other other_right at beside is lt next heads_there.0 heads_there.1 heads_beside.0 heads_beside.1 right_root other_root right_many other_many (rights_heads e).0 (rights_heads e).1
 
 -- patterns can be merged the other way round too
-pub can_merge_back : (left other : Pattern) → CanMerge left other → CanMerge other left
+pub can_merge_back : {classes : List (List heads.Head)} (left other : Pattern) → CanMerge classes left other → CanMerge classes other left
 can_merge_back left other m = record {
   left_size = m.other_size;
   other_size = m.left_size;

@@ -1,25 +1,28 @@
--- Two patterns have a common instance exactly where some term is an instance of both: the value of the merged pattern is one.
-use Rattle.std.proofs.Common.{◌≡◌, ◌⊎◌, ℕ, zero, suc, Bool, true, false, Some, pos, inl, inr, [], ◌∷◌, refl, sym, ◌∙◌, ap, subst, arith, ⊎_elim}
-use Rattle.std.specs.Prelude.{◌↔◌, IsTrue}
+-- Two patterns have a common instance exactly where some term is an instance of both.
+use Rattle.std.proofs.Common.{◌≡◌, ◌⊎◌, ℕ, zero, suc, ◌<◌, ◌≤◌, Bool, true, false, Some, inl, inr, pos, List, [], ◌∷◌, length, get_or, refl, sym, ◌∙◌, ap, subst, arith, ⊎_elim}
+use Rattle.std.specs.Prelude.{◌↔◌, IsTrue, Contains}
 use Rattle.std.specs.List.{AllByRecursion}
 use Rattle.std.specs.Ordering.{int_eq}
-use Rattle.std.proofs.lemmas.Bool.{cases_eq}
+use Rattle.std.proofs.lemmas.Bool.{cases_eq, cases_lt}
 use Rattle.std.proofs.lemmas.Bool.Decides.{nat_tests, Decides-int_eq}
 use Rattle.eq_base.specs.Tree.{Tree, Forest, node, empty, grow, head_of, count, Position, subtree_at, subtree_in}
 use Rattle.eq_base.specs.Pattern.{PatternCell, fixed, variable, restricted, restrictions, all_restrictions, Classes, Meets, IsConstantOf}
 use Rattle.eq_base.specs.Testing.{ClashAt}
-use Rattle.eq_base.specs.Meeting.{in_symbol_class}
+use Rattle.eq_base.specs.ClassLists.{members_of}
+use Rattle.eq_base.specs.Meeting.{in_symbol_class, same_head, in_class_of}
+use Rattle.eq_base.specs.Sharing.{ShareHead}
 use Rattle.eq_base.specs.declared.head.Head.{Head}
 use Rattle.eq_base.specs.declared.head.Head.TheVariants.{Symbol, Numeral, Atom, Text}
+use Rattle.eq_base.proofs.ClassMembers.{same_head_decides, symbol_class, listed_class}
 use Rattle.eq_base.proofs.Heads.{some_same}
 use Rattle.eq_base.proofs.Instances.{Fits, FitAll, fits_from_instance, instance_from_fits}
 use Rattle.eq_base.proofs.Lists.{all_front, all_back}
 use Rattle.regularity.specs.Arities.{HasArities, HaveArities}
 use Rattle.regularity.specs.Common.{HaveCommon}
 use Rattle.regularity.specs.Facing.{DoClash}
-use Rattle.regularity.specs.Merge.{merge, merge_all}
 use Rattle.regularity.specs.Shared.{HaveHeads, AreCompatible, HaveSharedInstance}
 use Rattle.regularity.proofs.Clashes.{clash_at}
+use Rattle.regularity.proofs.Faces.{contains_first}
 use Rattle.regularity.proofs.Filled.{linear_of_single, counts_same}
 
 -- ---- a shared instance leaves no clash
@@ -65,47 +68,102 @@ same_or_not (Atom a) (Atom b) = ⊎_elim (λ e. inl (ap Atom e)) (λ differ. inr
 same_or_not (Text a) (Text b) = ⊎_elim (λ e. inl (ap Text e)) (λ differ. inr (λ e. differ (cc))) (cases_eq a b)
 same_or_not g h = inr (λ e. cc)
 
--- the cells do not clash
-abbrev Agree : PatternCell Head → PatternCell Head → Type 0
-Agree c d = DoClash in_symbol_class c d → ⊥
-
-same_heads : (g h : Head) → Agree (fixed g) (fixed h) → g ≡ h
-same_heads g h none = ⊎_elim (λ e. e) (λ differ. absurd (none (tt, tt, λ k e f. differ (e ∙ sym f)))) (same_or_not g h)
-
-of_class : (class : ℕ) (h : Head) → (((k : Head) → IsTrue (in_symbol_class class k) → h ≡ k → ⊥) → ⊥) → IsTrue (in_symbol_class class h)
-of_class class h none = by_answer (in_symbol_class class h) refl
+-- some head of the list passes the test, or none does
+passes_or_not : (test : Head → Bool) (hs : List Head) → ((h : Head) × Contains hs h × IsTrue (test h)) ⊎ ((h : Head) → Contains hs h → IsTrue (test h) → ⊥)
+passes_or_not test [] = inr (λ h c. absurd (omega (arith, c.1)))
+passes_or_not test (g ∷ hs) =
+    ⊎_elim (λ passes. inl (g, contains_first g hs, passes))
+    (λ fails. ⊎_elim (λ found. inl (found.0, later g hs found.0 found.1, found.2)) (λ none. inr (λ h c passes. by_place h c.0 c.1 c.2 passes fails none)) (passes_or_not test hs))
+    (decided (test g) (λ e. e, λ e. e))
   where
-    by_answer : (b : Bool) → in_symbol_class class h ≡ b → IsTrue (in_symbol_class class h)
-    by_answer true e = e
-    by_answer false e = absurd (none (λ k inside same. let again = ap (in_symbol_class class) same in cc))
+    later : (g : Head) (hs : List Head) (h : Head) → Contains hs h → Contains (g ∷ hs) h
+    later g hs h c = (suc c.0, omega (arith, c.1), c.2)
 
+    by_place : (h : Head) (n : ℕ) → n < suc (length hs) → get_or (g ∷ hs) n h ≡ h → IsTrue (test h) → (IsTrue (test g) → ⊥) → ((h : Head) → Contains hs h → IsTrue (test h) → ⊥) → ⊥
+    by_place h zero lt e passes fails none = fails (subst (λ k. IsTrue (test k)) (sym e) passes)
+    by_place h (suc n) lt e passes fails none = none h (n, omega arith, e) passes
+
+-- a head is in one symbol class alone
 one_class : (class other : ℕ) (h : Head) → IsTrue (in_symbol_class class h) → IsTrue (in_symbol_class other h) → class ≡ other
 one_class class other (Symbol s) a b = grind (arith, nat_tests)
 one_class class other (Numeral n) a b = grind (arith, nat_tests)
 one_class class other (Atom n) a b = grind (arith, nat_tests)
 one_class class other (Text n) a b = grind (arith, nat_tests)
 
-same_classes : (x y class other : ℕ) → Agree (restricted x class) (restricted y other) → class ≡ other
-same_classes x y class other none = ⊎_elim (λ e. e) (λ differ. absurd (none (tt, tt, λ k a b. differ (one_class class other k a b)))) (cases_eq class other)
+-- each symbol class has a head
+some_head : (class : ℕ) → class < 4 → (h : Head) × IsTrue (in_symbol_class class h)
+some_head zero lt = (Numeral (pos 0), refl)
+some_head (suc zero) lt = (Atom 0, refl)
+some_head (suc (suc zero)) lt = (Symbol 0, refl)
+some_head (suc (suc (suc zero))) lt = (Text 0, refl)
+some_head (suc (suc (suc (suc n)))) lt = absurd (omega arith)
 
--- a head of a class that has one
-abbrev constant_of : ℕ → Head
-constant_of zero = Numeral (pos 0)
-constant_of (suc zero) = Atom 0
-constant_of (suc (suc zero)) = Symbol 0
-constant_of (suc (suc (suc n))) = Text 0
+module _ (classes : List (List Head)) where
+  abbrev in_class : Classes Head
+  in_class = in_class_of classes
 
-constant_in : (class : ℕ) (h : Head) → IsTrue (in_symbol_class class h) → IsTrue (in_symbol_class class (constant_of class))
-constant_in zero h inside = refl
-constant_in (suc zero) h inside = refl
-constant_in (suc (suc zero)) h inside = refl
-constant_in (suc (suc (suc zero))) h inside = refl
-constant_in (suc (suc (suc (suc n)))) (Symbol s) inside = absurd (grind (arith, nat_tests))
-constant_in (suc (suc (suc (suc n)))) (Numeral i) inside = absurd (grind (arith, nat_tests))
-constant_in (suc (suc (suc (suc n)))) (Atom a) inside = absurd (grind (arith, nat_tests))
-constant_in (suc (suc (suc (suc n)))) (Text t) inside = absurd (grind (arith, nat_tests))
+  -- the cells do not clash
+  abbrev Agree : PatternCell Head → PatternCell Head → Type 0
+  Agree c d = DoClash in_class c d → ⊥
 
--- ---- the value of the merged pattern
+  same_heads : (g h : Head) → Agree (fixed g) (fixed h) → g ≡ h
+  same_heads g h none = ⊎_elim (λ e. e) (λ differ. absurd (none (tt, tt, λ k e f. differ (e ∙ sym f)))) (same_or_not g h)
+
+  of_class : (class : ℕ) (h : Head) → (((k : Head) → IsTrue (in_class class k) → h ≡ k → ⊥) → ⊥) → IsTrue (in_class class h)
+  of_class class h none = by_answer (in_class class h) refl
+    where
+      by_answer : (b : Bool) → in_class class h ≡ b → IsTrue (in_class class h)
+      by_answer true e = e
+      by_answer false e = absurd (none (λ k inside same. let again = ap (in_class class) same in cc))
+
+  as_symbols : (class : ℕ) (h : Head) → class < 4 → in_class class h ≡ in_symbol_class class h
+  as_symbols class h lt = symbol_class same_head same_head_decides in_symbol_class classes class h lt
+
+  -- some member of the class of the file belongs to the other class, or none does
+  member_or_not : (listed class : ℕ) → 4 ≤ listed → ShareHead classes listed class ⊎ (ShareHead classes listed class → ⊥)
+  member_or_not listed class le =
+      ⊎_elim
+      (λ m. inl (m.0, (listed_class same_head same_head_decides in_symbol_class classes listed m.0 le).1 m.1, m.2))
+      (λ none. inr (λ s. none s.0 ((listed_class same_head same_head_decides in_symbol_class classes listed s.0 le).0 s.1) s.2))
+      (passes_or_not (in_class class) (members_of classes listed))
+
+  symbols_or_not : (one other : ℕ) → one < 4 → other < 4 → ShareHead classes one other ⊎ (ShareHead classes one other → ⊥)
+  symbols_or_not one other lt lt' =
+      ⊎_elim
+      (λ e. let s = some_head one lt in let here = as_symbols one s.0 lt ∙ s.1 in inl (s.0, here, subst (λ k. IsTrue (in_class k s.0)) e here))
+      (λ differ. inr (λ s. differ (one_class one other s.0 (sym (as_symbols one s.0 lt) ∙ s.1) (sym (as_symbols other s.0 lt') ∙ s.2))))
+      (cases_eq one other)
+
+  -- some head belongs to both classes, or none does
+  shared_or_not : (one other : ℕ) → ShareHead classes one other ⊎ (ShareHead classes one other → ⊥)
+  shared_or_not one other =
+      ⊎_elim
+      (λ lt. ⊎_elim
+      (λ lt'. symbols_or_not one other lt lt')
+      (λ past. ⊎_elim (λ s. inl (s.0, s.2, s.1)) (λ none. inr (λ s. none (s.0, s.2, s.1))) (member_or_not other one past))
+      (cases_lt other 4))
+      (λ past. member_or_not one other past)
+      (cases_lt one 4)
+
+  share_of_agree : (x y one other : ℕ) → Agree (restricted x one) (restricted y other) → ShareHead classes one other
+  share_of_agree x y one other none = ⊎_elim (λ s. s) (λ apart. absurd (none (tt, tt, λ h a b. apart (h, a, b)))) (shared_or_not one other)
+
+  -- a head of both classes, if there is one
+  abbrev common_head : ℕ → ℕ → Head
+  common_head one other = ⊎_elim (λ s. s.0) (λ none. Symbol 0) (shared_or_not one other)
+
+  common_in : (one other : ℕ) → ShareHead classes one other → IsTrue (in_class one (common_head one other)) × IsTrue (in_class other (common_head one other))
+  common_in one other share = by_answer (shared_or_not one other)
+    where
+      by_answer : (a : ShareHead classes one other ⊎ (ShareHead classes one other → ⊥)) →
+          IsTrue (in_class one (⊎_elim (λ (s : ShareHead classes one other). s.0) (λ none. Symbol 0) a)) × IsTrue (in_class other (⊎_elim (λ (s : ShareHead classes one other). s.0) (λ none. Symbol 0) a))
+      by_answer (inl s) = (s.1, s.2)
+      by_answer (inr none) = absurd (none share)
+
+  constant_in : (class : ℕ) (h : Head) → IsTrue (in_class class h) → IsTrue (in_class class (common_head class class))
+  constant_in class h inside = (common_in class class (h, inside, inside)).0
+
+-- ---- a term that is an instance of both
 
 abbrev Pattern : Type 0
 Pattern = Tree (PatternCell Head)
@@ -113,105 +171,122 @@ Pattern = Tree (PatternCell Head)
 abbrev Patterns : Type 0
 Patterns = Forest (PatternCell Head)
 
--- the pattern with a constant in the place of each variable
-abbrev mutual
-  filled : Pattern → Tree Head
-  filled (node (fixed h) ps) = node h (all_filled ps)
-  filled (node (variable x) ps) = node (Symbol 0) empty
-  filled (node (restricted x class) ps) = node (constant_of class) empty
+module _ (classes : List (List Head)) where
+  -- the pattern with a constant in the place of each variable
+  abbrev mutual
+    filled : Pattern → Tree Head
+    filled (node (fixed h) ps) = node h (all_filled ps)
+    filled (node (variable x) ps) = node (Symbol 0) empty
+    filled (node (restricted x class) ps) = node (common_head classes class class) empty
 
-  all_filled : Patterns → Forest Head
-  all_filled empty = empty
-  all_filled (grow p ps) = grow (filled p) (all_filled ps)
+    all_filled : Patterns → Forest Head
+    all_filled empty = empty
+    all_filled (grow p ps) = grow (filled p) (all_filled ps)
 
-abbrev pub HasHead : ℕ × ℕ → Type 0
-HasHead r = (h : Head) × IsTrue (in_symbol_class r.1 h)
+  -- two patterns in one, with constants of both where neither has a head
+  abbrev mutual
+    both_filled : Pattern → Pattern → Tree Head
+    both_filled (node (fixed g) ps) (node (fixed h) rs) = node g (all_both_filled ps rs)
+    both_filled (node (fixed g) ps) (node (variable y) rs) = node g (all_filled ps)
+    both_filled (node (fixed g) ps) (node (restricted y other) rs) = node g (all_filled ps)
+    both_filled (node (variable x) ps) r = filled r
+    both_filled (node (restricted x class) ps) (node (fixed h) rs) = node h (all_filled rs)
+    both_filled (node (restricted x class) ps) (node (variable y) rs) = node (common_head classes class class) empty
+    both_filled (node (restricted x class) ps) (node (restricted y other) rs) = node (common_head classes class other) empty
 
-abbrev pub AllHaveHeads : Patterns → Type 0
-AllHaveHeads ps = AllByRecursion HasHead (all_restrictions ps)
+    all_both_filled : Patterns → Patterns → Forest Head
+    all_both_filled (grow p ps) (grow r rs) = grow (both_filled p r) (all_both_filled ps rs)
+    all_both_filled (grow p ps) empty = empty
+    all_both_filled empty rs = empty
 
-first_heads : (p : Pattern) (ps : Patterns) → AllHaveHeads (grow p ps) → HaveHeads p
-first_heads p ps k = all_front HasHead (restrictions p) (all_restrictions ps) k
+  abbrev pub HasHead : ℕ × ℕ → Type 0
+  HasHead r = (h : Head) × IsTrue (in_class_of classes r.1 h)
 
-later_heads : (p : Pattern) (ps : Patterns) → AllHaveHeads (grow p ps) → AllHaveHeads ps
-later_heads p ps k = all_back HasHead (restrictions p) (all_restrictions ps) k
+  abbrev pub AllHaveHeads : Patterns → Type 0
+  AllHaveHeads ps = AllByRecursion HasHead (all_restrictions ps)
 
-mutual
-  fits_filled : (p : Pattern) → HaveHeads p → Fits in_symbol_class p (filled p)
-  fits_filled (node (fixed h) ps) k = (refl, fit_filled ps k)
-  fits_filled (node (variable x) ps) k = tt
-  fits_filled (node (restricted x class) ps) k = constant_in class k.0.0 k.0.1
+  first_heads : (p : Pattern) (ps : Patterns) → AllHaveHeads (grow p ps) → HaveHeads classes p
+  first_heads p ps k = all_front HasHead (restrictions p) (all_restrictions ps) k
 
-  fit_filled : (ps : Patterns) → AllHaveHeads ps → FitAll in_symbol_class ps (all_filled ps)
-  fit_filled empty k = tt
-  fit_filled (grow p ps) k = (fits_filled p (first_heads p ps k), fit_filled ps (later_heads p ps k))
-
-constant_fits : (class : ℕ) (h : Head) (ps : Patterns) → IsTrue (in_symbol_class class h) → count ps ≡ 0 → IsConstantOf in_symbol_class class (node h (all_filled ps))
-constant_fits class h empty inside none = inside
-constant_fits class h (grow p ps) inside none = absurd (omega arith)
-
--- no two cells at one position clash
-abbrev AgreeAll : Pattern → Pattern → Type 0
-AgreeAll p r = (q : Position) (t u : Pattern) → subtree_at p q ≡ Some t → subtree_at r q ≡ Some u → Agree (head_of t) (head_of u)
-
-abbrev AgreeIn : Patterns → Patterns → Type 0
-AgreeIn ps rs = (i : ℕ) (q : Position) (t u : Pattern) → subtree_in ps i q ≡ Some t → subtree_in rs i q ≡ Some u → Agree (head_of t) (head_of u)
-
-module _ (arity : Head → ℕ) (constants : (class : ℕ) (h : Head) → IsTrue (in_symbol_class class h) → arity h ≡ 0) where
-  mutual
-    fits_one : (p r : Pattern) → HasArities arity p → HasArities arity r → HaveHeads p → AgreeAll p r → Fits in_symbol_class p (filled (merge p r))
-    fits_one (node (fixed g) us) (node (fixed h) vs) a b k none =
-        (refl, fit_one us vs a.1 b.1 k (λ i q t u e f. none (i ∷ q) t u e f) (counts_same arity g h us vs a.0 b.0 (none [] (node (fixed g) us) (node (fixed h) vs) refl refl)))
-    fits_one (node (fixed g) us) (node (variable y) vs) a b k none = (refl, fit_filled us k)
-    fits_one (node (fixed g) us) (node (restricted y class) vs) a b k none = (refl, fit_filled us k)
-    fits_one (node (variable x) us) r a b k none = tt
-    fits_one (node (restricted x class) us) (node (fixed h) vs) a b k none =
-        let inside = of_class class h (λ clash. none [] (node (restricted x class) us) (node (fixed h) vs) refl refl (tt, tt, clash)) in
-        constant_fits class h vs inside (b.0 ∙ constants class h inside)
-    fits_one (node (restricted x class) us) (node (variable y) vs) a b k none = constant_in class k.0.0 k.0.1
-    fits_one (node (restricted x class) us) (node (restricted y other) vs) a b k none = constant_in class k.0.0 k.0.1
-
-    fit_one : (ps rs : Patterns) → HaveArities arity ps → HaveArities arity rs → AllHaveHeads ps → AgreeIn ps rs → count ps ≡ count rs → FitAll in_symbol_class ps (all_filled (merge_all ps rs))
-    fit_one empty empty a b k none e = tt
-    fit_one empty (grow r rs) a b k none e = absurd (omega arith)
-    fit_one (grow p ps) empty a b k none e = absurd (omega arith)
-    fit_one (grow p ps) (grow r rs) a b k none e =
-        (fits_one p r a.0 b.0 (first_heads p ps k) (λ q t u f g. none 0 q t u f g), fit_one ps rs a.1 b.1 (later_heads p ps k) (λ i q t u f g. none (suc i) q t u f g) (omega arith))
+  later_heads : (p : Pattern) (ps : Patterns) → AllHaveHeads (grow p ps) → AllHaveHeads ps
+  later_heads p ps k = all_back HasHead (restrictions p) (all_restrictions ps) k
 
   mutual
-    fits_other : (p r : Pattern) → HasArities arity p → HasArities arity r → HaveHeads p → HaveHeads r → AgreeAll p r → Fits in_symbol_class r (filled (merge p r))
-    fits_other (node (fixed g) us) (node (fixed h) vs) a b k l none =
-        let root = none [] (node (fixed g) us) (node (fixed h) vs) refl refl in
-        (sym (same_heads g h root), fit_other us vs a.1 b.1 k l (λ i q t u e f. none (i ∷ q) t u e f) (counts_same arity g h us vs a.0 b.0 root))
-    fits_other (node (fixed g) us) (node (variable y) vs) a b k l none = tt
-    fits_other (node (fixed g) us) (node (restricted y class) vs) a b k l none =
-        let inside = of_class class g (λ clash. none [] (node (fixed g) us) (node (restricted y class) vs) refl refl (tt, tt, λ h same within. clash h within same)) in
-        constant_fits class g us inside (a.0 ∙ constants class g inside)
-    fits_other (node (variable x) us) (node (fixed h) vs) a b k l none = (refl, fit_filled vs l)
-    fits_other (node (variable x) us) (node (variable y) vs) a b k l none = tt
-    fits_other (node (variable x) us) (node (restricted y class) vs) a b k l none = constant_in class l.0.0 l.0.1
-    fits_other (node (restricted x other) us) (node (fixed h) vs) a b k l none = (refl, fit_filled vs l)
-    fits_other (node (restricted x other) us) (node (variable y) vs) a b k l none = tt
-    fits_other (node (restricted x other) us) (node (restricted y class) vs) a b k l none =
-        subst (λ c. IsTrue (in_symbol_class c (constant_of other))) (same_classes x y other class (none [] (node (restricted x other) us) (node (restricted y class) vs) refl refl)) (constant_in other k.0.0 k.0.1)
+    fits_filled : (p : Pattern) → HaveHeads classes p → Fits (in_class_of classes) p (filled p)
+    fits_filled (node (fixed h) ps) k = (refl, fit_filled ps k)
+    fits_filled (node (variable x) ps) k = tt
+    fits_filled (node (restricted x class) ps) k = constant_in classes class k.0.0 k.0.1
 
-    fit_other : (ps rs : Patterns) → HaveArities arity ps → HaveArities arity rs → AllHaveHeads ps → AllHaveHeads rs → AgreeIn ps rs → count ps ≡ count rs → FitAll in_symbol_class rs (all_filled (merge_all ps rs))
-    fit_other empty empty a b k l none e = tt
-    fit_other empty (grow r rs) a b k l none e = absurd (omega arith)
-    fit_other (grow p ps) empty a b k l none e = absurd (omega arith)
-    fit_other (grow p ps) (grow r rs) a b k l none e =
-        (fits_other p r a.0 b.0 (first_heads p ps k) (first_heads r rs l) (λ q t u f g. none 0 q t u f g), fit_other ps rs a.1 b.1 (later_heads p ps k) (later_heads r rs l) (λ i q t u f g. none (suc i) q t u f g) (omega arith))
+    fit_filled : (ps : Patterns) → AllHaveHeads ps → FitAll (in_class_of classes) ps (all_filled ps)
+    fit_filled empty k = tt
+    fit_filled (grow p ps) k = (fits_filled p (first_heads p ps k), fit_filled ps (later_heads p ps k))
+
+  constant_fits : (class : ℕ) (h : Head) (ps : Patterns) → IsTrue (in_class_of classes class h) → count ps ≡ 0 → IsConstantOf (in_class_of classes) class (node h (all_filled ps))
+  constant_fits class h empty inside none = inside
+  constant_fits class h (grow p ps) inside none = absurd (omega arith)
+
+  -- no two cells at one position clash
+  abbrev AgreeAll : Pattern → Pattern → Type 0
+  AgreeAll p r = (q : Position) (t u : Pattern) → subtree_at p q ≡ Some t → subtree_at r q ≡ Some u → Agree classes (head_of t) (head_of u)
+
+  abbrev AgreeIn : Patterns → Patterns → Type 0
+  AgreeIn ps rs = (i : ℕ) (q : Position) (t u : Pattern) → subtree_in ps i q ≡ Some t → subtree_in rs i q ≡ Some u → Agree classes (head_of t) (head_of u)
+
+  module _ (arity : Head → ℕ) (constants : (class : ℕ) (h : Head) → IsTrue (in_class_of classes class h) → arity h ≡ 0) where
+    mutual
+      fits_one : (p r : Pattern) → HasArities arity p → HasArities arity r → HaveHeads classes p → AgreeAll p r → Fits (in_class_of classes) p (both_filled p r)
+      fits_one (node (fixed g) us) (node (fixed h) vs) a b k none =
+          (refl, fit_one us vs a.1 b.1 k (λ i q t u e f. none (i ∷ q) t u e f) (counts_same (in_class_of classes) arity g h us vs a.0 b.0 (none [] (node (fixed g) us) (node (fixed h) vs) refl refl)))
+      fits_one (node (fixed g) us) (node (variable y) vs) a b k none = (refl, fit_filled us k)
+      fits_one (node (fixed g) us) (node (restricted y class) vs) a b k none = (refl, fit_filled us k)
+      fits_one (node (variable x) us) r a b k none = tt
+      fits_one (node (restricted x class) us) (node (fixed h) vs) a b k none =
+          let inside = of_class classes class h (λ clash. none [] (node (restricted x class) us) (node (fixed h) vs) refl refl (tt, tt, clash)) in
+          constant_fits class h vs inside (b.0 ∙ constants class h inside)
+      fits_one (node (restricted x class) us) (node (variable y) vs) a b k none = constant_in classes class k.0.0 k.0.1
+      fits_one (node (restricted x class) us) (node (restricted y other) vs) a b k none =
+          (common_in classes class other (share_of_agree classes x y class other (none [] (node (restricted x class) us) (node (restricted y other) vs) refl refl))).0
+
+      fit_one : (ps rs : Patterns) → HaveArities arity ps → HaveArities arity rs → AllHaveHeads ps → AgreeIn ps rs → count ps ≡ count rs → FitAll (in_class_of classes) ps (all_both_filled ps rs)
+      fit_one empty empty a b k none e = tt
+      fit_one empty (grow r rs) a b k none e = absurd (omega arith)
+      fit_one (grow p ps) empty a b k none e = absurd (omega arith)
+      fit_one (grow p ps) (grow r rs) a b k none e =
+          (fits_one p r a.0 b.0 (first_heads p ps k) (λ q t u f g. none 0 q t u f g), fit_one ps rs a.1 b.1 (later_heads p ps k) (λ i q t u f g. none (suc i) q t u f g) (omega arith))
+
+    mutual
+      fits_other : (p r : Pattern) → HasArities arity p → HasArities arity r → HaveHeads classes r → AgreeAll p r → Fits (in_class_of classes) r (both_filled p r)
+      fits_other (node (fixed g) us) (node (fixed h) vs) a b l none =
+          let root = none [] (node (fixed g) us) (node (fixed h) vs) refl refl in
+          (sym (same_heads classes g h root), fit_other us vs a.1 b.1 l (λ i q t u e f. none (i ∷ q) t u e f) (counts_same (in_class_of classes) arity g h us vs a.0 b.0 root))
+      fits_other (node (fixed g) us) (node (variable y) vs) a b l none = tt
+      fits_other (node (fixed g) us) (node (restricted y class) vs) a b l none =
+          let inside = of_class classes class g (λ clash. none [] (node (fixed g) us) (node (restricted y class) vs) refl refl (tt, tt, λ h same within. clash h within same)) in
+          constant_fits class g us inside (a.0 ∙ constants class g inside)
+      fits_other (node (variable x) us) r a b l none = fits_filled r l
+      fits_other (node (restricted x other) us) (node (fixed h) vs) a b l none = (refl, fit_filled vs l)
+      fits_other (node (restricted x other) us) (node (variable y) vs) a b l none = tt
+      fits_other (node (restricted x other) us) (node (restricted y class) vs) a b l none =
+          (common_in classes other class (share_of_agree classes x y other class (none [] (node (restricted x other) us) (node (restricted y class) vs) refl refl))).1
+
+      fit_other : (ps rs : Patterns) → HaveArities arity ps → HaveArities arity rs → AllHaveHeads rs → AgreeIn ps rs → count ps ≡ count rs → FitAll (in_class_of classes) rs (all_both_filled ps rs)
+      fit_other empty empty a b l none e = tt
+      fit_other empty (grow r rs) a b l none e = absurd (omega arith)
+      fit_other (grow p ps) empty a b l none e = absurd (omega arith)
+      fit_other (grow p ps) (grow r rs) a b l none e =
+          (fits_other p r a.0 b.0 (first_heads r rs l) (λ q t u f g. none 0 q t u f g), fit_other ps rs a.1 b.1 (later_heads r rs l) (λ i q t u f g. none (suc i) q t u f g) (omega arith))
 
 -- ---- the law
 
-pub common_is_shared : (p r : Pattern) → AreCompatible p r → HaveCommon in_symbol_class p r ↔ HaveSharedInstance p r
-common_is_shared p r both = (
+pub common_is_shared : (classes : List (List Head)) (p r : Pattern) → AreCompatible classes p r → HaveCommon (in_class_of classes) p r ↔ HaveSharedInstance classes p r
+common_is_shared classes p r both = (
   λ common.
-      let none : AgreeAll p r = λ q t u e f clash. common q (clash_at in_symbol_class p r q t u e f clash) in (
-        filled (merge p r),
-        instance_from_fits in_symbol_class p (filled (merge p r)) (linear_of_single both.arity p both.one both.one_linear) (fits_one both.arity both.constants p r both.one both.other both.one_classes none),
-        instance_from_fits in_symbol_class r (filled (merge p r)) (linear_of_single both.arity r both.other both.other_linear) (fits_other both.arity both.constants p r both.one both.other both.one_classes both.other_classes none),
+      let none : AgreeAll classes p r = λ q t u e f clash. common q (clash_at (in_class_of classes) p r q t u e f clash) in
+      let t = both_filled classes p r in (
+        t,
+        instance_from_fits (in_class_of classes) p t (linear_of_single both.arity p both.one both.one_linear) (fits_one classes both.arity both.constants p r both.one both.other both.one_classes none),
+        instance_from_fits (in_class_of classes) r t (linear_of_single both.arity r both.other both.other_linear) (fits_other classes both.arity both.constants p r both.one both.other both.other_classes none),
       ),
   λ shared.
-      no_clash in_symbol_class both.arity p r shared.0 both.one both.other (fits_from_instance in_symbol_class p shared.0 shared.1) (fits_from_instance in_symbol_class r shared.0 shared.2),
+      no_clash (in_class_of classes) both.arity p r shared.0 both.one both.other (fits_from_instance (in_class_of classes) p shared.0 shared.1) (fits_from_instance (in_class_of classes) r shared.0 shared.2),
 )

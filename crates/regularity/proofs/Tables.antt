@@ -1,18 +1,21 @@
 -- Numbers of arguments by a table, cell by cell.
-use Rattle.std.proofs.Common.{◌≡◌, ℕ, zero, suc, ◌+◌, ◌<◌, List, [], ◌∷◌, length, Some, get_or, eq-eqb, refl, sym, ◌∙◌, ap, subst, arith, ⊎_elim}
+use Rattle.std.proofs.Common.{◌≡◌, ℕ, zero, suc, ◌+◌, ◌-◌, ◌<◌, ◌≤◌, List, [], ◌∷◌, length, Some, get_or, refl, sym, ◌∙◌, ap, subst, arith, ⊎_elim}
 use Rattle.std.proofs.lemmas.Bool.{cases_lt}
 use Rattle.std.proofs.lemmas.Bool.Decides.{nat_tests}
+use Rattle.std.proofs.lemmas.List.{get_or_default}
 use Rattle.std.proofs.lemmas.Option.{get_or_from_slice_get}
-use Rattle.std.specs.Prelude.{◌↔◌, IsTrue, nat_eq, slice_get, slice_index_or}
+use Rattle.std.specs.Prelude.{◌↔◌, IsTrue, All, Contains, slice_get, slice_index_or}
 use Rattle.std.specs.List.{AllByRecursion}
 use Rattle.eq_base.specs.Tree.{Tree, Forest, node, empty, grow, count, arity_of, size, subtrees, all_subtrees, nth_subtree}
 use Rattle.eq_base.specs.Pattern.{PatternCell, fixed, variable, restricted}
 use Rattle.eq_base.specs.Cells.{root_cell, arity_in}
-use Rattle.eq_base.specs.Meeting.{in_symbol_class}
+use Rattle.eq_base.specs.ClassLists.{members_of}
+use Rattle.eq_base.specs.Meeting.{in_symbol_class, same_head}
 use Rattle.eq_base.specs.declared.head.Head.{Head}
 use Rattle.eq_base.specs.declared.head.Head.TheVariants.{Symbol, Numeral, Atom, Text}
 use Rattle.eq_base.specs.declared.rules.Equation.{Equation}
 use Rattle.eq_base.specs.declared.head.Cell.{Cell}
+use Rattle.eq_base.proofs.ClassMembers.{same_head_decides, symbol_class, listed_class, past_classes}
 use Rattle.eq_base.proofs.Lists.{all_front, all_back}
 use Rattle.eq_base.proofs.Trees.{length-subtrees}
 use Rattle.regularity.specs.Arities.{HasArities, HaveArities}
@@ -67,17 +70,43 @@ cell_has table p c is arity = subst (λ d. HasArityBy table d ↔ HeadHas (arity
     by_root (node (variable x) ps) e = (λ a. none_empty ps e, λ a. tt)
     by_root (node (restricted x class) ps) e = (λ a. none_empty ps e, λ a. tt)
 
--- of the heads of classes the table holds the truth values alone
-pub constants_none : (table : List ℕ) (a b : ℕ) → a ≡ arity_by table (Symbol 0) → b ≡ arity_by table (Symbol 1) → a ≡ 0 → IsTrue (nat_eq b 0) ↔ GivesConstantsNone table
-constants_none table a b first second none = (λ yes class h inside. all_none (let e : b ≡ 0 = grind (arith, nat_tests) in e) class h inside, λ all. eq-eqb b 0 (second ∙ all 2 (Symbol 1) refl))
-  where
-    all_none : b ≡ 0 → (class : ℕ) (h : Head) → IsTrue (in_symbol_class class h) → arity_by table h ≡ 0
-    all_none e class (Symbol zero) inside = sym first ∙ none
-    all_none e class (Symbol (suc zero)) inside = sym second ∙ e
-    all_none e class (Symbol (suc (suc s))) inside = absurd (grind (arith, nat_tests))
-    all_none e class (Numeral i) inside = refl
-    all_none e class (Atom n) inside = refl
-    all_none e class (Text n) inside = refl
+module _ (table : List ℕ) (classes : List (List Head)) where
+  symbols_none : 0 ≡ arity_by table (Symbol 0) → 0 ≡ arity_by table (Symbol 1) → (class : ℕ) (h : Head) → IsTrue (in_symbol_class class h) → arity_by table h ≡ 0
+  symbols_none first second class (Symbol zero) inside = sym first
+  symbols_none first second class (Symbol (suc zero)) inside = sym second
+  symbols_none first second class (Symbol (suc (suc s))) inside = absurd (grind (arith, nat_tests))
+  symbols_none first second class (Numeral i) inside = refl
+  symbols_none first second class (Atom n) inside = refl
+  symbols_none first second class (Text n) inside = refl
+
+  -- the members of this class have no arguments
+  abbrev pub HaveNone : ℕ → Type 0
+  HaveNone class = All (λ h. arity_by table h ≡ 0) (members_of classes class)
+
+  none_of : (hs : List Head) (h : Head) → All (λ g. arity_by table g ≡ 0) hs → Contains hs h → arity_by table h ≡ 0
+  none_of hs h all c = subst (λ g. arity_by table g ≡ 0) c.2 (all c.0 h c.1)
+
+  no_member : (hs : List Head) (h : Head) → hs ≡ [] → Contains hs h → ⊥
+  no_member hs h e c = omega (arith, c.1, ap length e)
+
+  -- the heads of classes have no arguments where the truth values and the members have none
+  pub constants_none : 0 ≡ arity_by table (Symbol 0) → 0 ≡ arity_by table (Symbol 1) → ((k : ℕ) → k < length classes → HaveNone (4 + k)) → GivesConstantsNone table classes
+  constants_none first second members class h inside =
+      ⊎_elim
+      (λ lt. symbols_none first second class h (sym (symbol_class same_head same_head_decides in_symbol_class classes class h lt) ∙ inside))
+      (λ le.
+      let listed = (listed_class same_head same_head_decides in_symbol_class classes class h le).0 inside in
+      ⊎_elim
+      (λ known. let again : 4 + (class - 4) ≡ class = omega (arith, le) in none_of (members_of classes class) h (subst HaveNone again (members (class - 4) (omega (arith, le, known)))) listed)
+      (λ past. absurd (no_member (members_of classes class) h (past_classes classes class past) listed))
+      (cases_lt class (4 + length classes)))
+      (cases_lt class 4)
+
+  -- and so the members of each class
+  pub members_none : GivesConstantsNone table classes → (class : ℕ) → 4 ≤ class → HaveNone class
+  members_none all class le k d lt =
+      all class (slice_index_or (members_of classes class) k d)
+      ((listed_class same_head same_head_decides in_symbol_class classes class (slice_index_or (members_of classes class) k d) le).1 (k, lt, get_or_default (members_of classes class) k (slice_index_or (members_of classes class) k d) d lt))
 
 -- one more equation of a list is well formed
 pub each_more : (table : List ℕ) (es : List Equation) (n : ℕ) (e : Equation) → slice_get es n ≡ Some e → IsWellFormedBy table e → ((k : ℕ) (d : Equation) → k < n → IsWellFormedBy table (get_or es k d)) → (k : ℕ) (d : Equation) → k < n + 1 → IsWellFormedBy table (get_or es k d)

@@ -1,7 +1,7 @@
 -- How two cells at one position stand to each other.
-use Rattle.std.specs.Prelude.{◌≡◌, ◌⊎◌}
+use Rattle.std.specs.Prelude.{◌≡◌, ◌⊎◌, List}
 use Rattle.eq_base.specs.Pattern.{PatternCell, fixed, IsTested, Classes, Clash}
-use Rattle.eq_base.specs.Meeting.{in_symbol_class}
+use Rattle.eq_base.specs.Meeting.{in_class_of}
 use Rattle.eq_base.specs.declared.head.Head.{Head}
 use Rattle.regularity.specs.declared.facing.Facing as facings
 use Rattle.regularity.specs.declared.facing.Facing.TheVariants as facing
@@ -25,9 +25,9 @@ module _ {H : Type 0} where
     pub no_clash : DoClash in_class c d → ⊥
     pub no_mismatch : IsMismatch c d → ⊥
 
--- how the cells stand to each other
-abbrev pub IsFacing : PatternCell Head → PatternCell Head → facings.Facing → Type 0
-IsFacing c d facing.Clash = DoClash in_symbol_class c d
-IsFacing c d facing.Mismatch = IsMismatch c d
-IsFacing c d facing.SameHead = IsSameHead c d
-IsFacing c d facing.Variable = IsQuietVariable in_symbol_class c d
+-- how the cells stand to each other, in a file with these classes
+abbrev pub IsFacing : List (List Head) → PatternCell Head → PatternCell Head → facings.Facing → Type 0
+IsFacing classes c d facing.Clash = DoClash (in_class_of classes) c d
+IsFacing classes c d facing.Mismatch = IsMismatch c d
+IsFacing classes c d facing.SameHead = IsSameHead c d
+IsFacing classes c d facing.Variable = IsQuietVariable (in_class_of classes) c d

@@ -1,9 +1,9 @@
 -- Words of private functions alone: parts of the merge of two left sides, as they are found.
-use Rattle.std.specs.Prelude.{◌≡◌, ◌↔◌, ℕ, ◌≤◌, Bool, IsTrue}
+use Rattle.std.specs.Prelude.{◌≡◌, ◌↔◌, ℕ, ◌≤◌, Bool, IsTrue, List}
 use Rattle.eq_base.specs.Limits.{most_left_cells}
 use Rattle.eq_base.specs.Tree.{Tree, size, nth_subtree}
 use Rattle.eq_base.specs.Pattern.{PatternCell, fixed, variable, Substitution}
-use Rattle.eq_base.specs.Meeting.{in_symbol_class}
+use Rattle.eq_base.specs.Meeting.{in_class_of}
 use Rattle.eq_base.specs.declared.head.Head.{Head}
 use Rattle.eq_base.specs.declared.head.Cell as cells
 use Rattle.eq_base.specs.declared.head.Cell.TheVariants as cell
@@ -44,8 +44,8 @@ named_cell n (cell.Var x) = (variable n, 0)
 named_cell n (cell.Class x class) = (variable n, 0)
 
 -- the two patterns can be merged: they are small, agree on arguments, and have a common instance
-pub record CanMerge (left other : Tree (PatternCell Head)) : Type 0 where
+pub record CanMerge (classes : List (List Head)) (left other : Tree (PatternCell Head)) : Type 0 where
   pub left_size : size left ≤ most_left_cells
   pub other_size : size other ≤ most_left_cells
   pub arities : AgreeOnArities left other
-  pub common : HaveCommon in_symbol_class left other
+  pub common : HaveCommon (in_class_of classes) left other

@@ -3,7 +3,8 @@ use Rattle.std.specs.Prelude.{◌≡◌, ℕ, ◌≤◌, List, length, IsTrue, A
 use Rattle.eq_base.specs.Limits.{most_equations, most_left_cells, most_right_cells}
 use Rattle.eq_base.specs.Tree.{Tree, head_of, size}
 use Rattle.eq_base.specs.Pattern.{PatternCell, fixed}
-use Rattle.eq_base.specs.Meeting.{in_symbol_class}
+use Rattle.eq_base.specs.Meeting.{in_class_of}
+use Rattle.eq_base.specs.RuleList.{RuleList}
 use Rattle.eq_base.specs.Operations.{application}
 use Rattle.eq_base.specs.declared.head.Head as heads
 use Rattle.eq_base.specs.declared.head.Head.TheVariants.{Symbol, Numeral, Atom, Text}
@@ -36,12 +37,12 @@ pub record IsWellFormed (e : Equation) : Type 0 where
 
 -- the equations are few enough, each is well formed, and their left sides agree on the number of arguments of
 -- each head, which is none for the heads of classes
-pub record AreWellFormed (equations : List Equation) : Type 0 where
-  pub few : length equations ≤ most_equations
-  pub each : All IsWellFormed equations
+pub record AreWellFormed (rules : RuleList) : Type 0 where
+  pub few : length rules.equations ≤ most_equations
+  pub each : All IsWellFormed rules.equations
   pub arity : heads.Head → ℕ
-  pub arities : All (λ e. HasArities arity e.left) equations
-  pub constants : (class : ℕ) (h : heads.Head) → IsTrue (in_symbol_class class h) → arity h ≡ 0
+  pub arities : All (λ e. HasArities arity e.left) rules.equations
+  pub constants : (class : ℕ) (h : heads.Head) → IsTrue (in_class_of rules.classes class h) → arity h ≡ 0
 
 -- ---- by a table of symbols
 
@@ -54,8 +55,8 @@ arity_by table (Atom a) = 0
 arity_by table (Text t) = 0
 
 -- the heads of classes have no arguments
-abbrev pub GivesConstantsNone : List ℕ → Type 0
-GivesConstantsNone table = (class : ℕ) (h : heads.Head) → IsTrue (in_symbol_class class h)
+abbrev pub GivesConstantsNone : List ℕ → List (List heads.Head) → Type 0
+GivesConstantsNone table classes = (class : ℕ) (h : heads.Head) → IsTrue (in_class_of classes class h)
     → arity_by table h ≡ 0
 
 -- the equation is well formed, and the heads of its left side have as many arguments as the table says
@@ -63,8 +64,14 @@ pub record IsWellFormedBy (table : List ℕ) (e : Equation) : Type 0 where
   pub well_formed : IsWellFormed e
   pub arities : HasArities (arity_by table) e.left
 
--- the equations are well formed, and the table has the number of arguments of each head
-pub record AreWellFormedBy (table : List ℕ) (equations : List Equation) : Type 0 where
-  pub few : length equations ≤ most_equations
-  pub each : All (IsWellFormedBy table) equations
-  pub constants : GivesConstantsNone table
+-- the most classes that a file lists
+abbrev pub most_classes : ℕ
+most_classes = 250
+
+-- the equations are well formed, the table has the number of arguments of each head, and their classes are
+-- few enough to have numbers
+pub record AreWellFormedBy (table : List ℕ) (rules : RuleList) : Type 0 where
+  pub few : length rules.equations ≤ most_equations
+  pub few_classes : length rules.classes ≤ most_classes
+  pub each : All (IsWellFormedBy table) rules.equations
+  pub constants : GivesConstantsNone table rules.classes

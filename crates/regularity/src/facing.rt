@@ -2,7 +2,7 @@
 ghost use Rattle.eq_base.specs.Cells.{kind_of};
 ghost use Rattle.regularity.specs.Facing.{IsFacing};
 
-use eq_base::{Cell, clash};
+use eq_base::{Cell, Classes, clash};
 
 /// How two cells stand to each other.
 #[derive(Clone, Copy, PartialEq, Eq, Debug)]
@@ -17,14 +17,14 @@ pub enum Facing {
     Variable,
 }
 
-/// How two cells stand to each other.
-pub fn facing_of(one: Cell, other: Cell) -> Facing
-    ensures { IsFacing (kind_of one) (kind_of other) result }
+/// How two cells stand to each other, in a file with these classes.
+pub fn facing_of(classes: &Classes, one: Cell, other: Cell) -> Facing
+    ensures { IsFacing classes.now (kind_of one) (kind_of other) result }
 {
     match (one, other) {
         (Cell::Var(_), Cell::Var(_)) => Facing::Variable,
         (Cell::Var(_), _) | (_, Cell::Var(_)) => Facing::Mismatch,
-        (_, _) if clash(one, other) => Facing::Clash,
+        (_, _) if clash(classes, one, other) => Facing::Clash,
         (Cell::Head(_, _), Cell::Head(_, _)) => Facing::SameHead,
         (_, _) => Facing::Variable,
     }

@@ -2,7 +2,7 @@
 // the left sides with other names of variables.
 ghost use Rattle.std.specs.Prelude.{◌≡◌, ℕ, ◌<◌, ◌≤◌, ◌↔◌, IsTrue};
 ghost use Rattle.eq_base.specs.Tree.{size, nth_subtree};
-ghost use Rattle.eq_base.specs.Meeting.{in_symbol_class};
+ghost use Rattle.eq_base.specs.Meeting.{in_class_of};
 ghost use Rattle.eq_base.specs.Rules.{right_side};
 ghost use Rattle.regularity.specs.Arities.{AgreeOnArities};
 ghost use Rattle.regularity.specs.Common.{HaveCommon};
@@ -14,7 +14,7 @@ ghost use Rattle.regularity.specs.Single.{IsSingle};
 ghost use Rattle.regularity.specs.WellFormed.{IsWellFormed};
 
 use crate::facing::{Facing, facing_of};
-use eq_base::{Cell, Equation, Pattern, Right};
+use eq_base::{Cell, Classes, Equation, Pattern, Right};
 
 // What a variable of one left side stands for in the merge: the part of the other left side at a cell.
 // Its variables are named by their positions in the merge, and this is the first cell's.
@@ -26,9 +26,9 @@ struct MergedPart {
 
 /// Whether right sides are the same, read under the merge of the left sides. The right side of an
 /// operation is the same as no other. It takes no memory.
-pub fn is_same_right(one: &Equation, other: &Equation) -> bool
+pub fn is_same_right(classes: &Classes, one: &Equation, other: &Equation) -> bool
     requires arities { AgreeOnArities one.now.left other.now.left }
-    requires common { HaveCommon in_symbol_class one.now.left other.now.left }
+    requires common { HaveCommon (in_class_of classes.now) one.now.left other.now.left }
     requires one { IsWellFormed one.now × IsSingle one.now }
     requires other { IsWellFormed other.now × IsSingle other.now }
     ensures { IsTrue result
@@ -37,12 +37,18 @@ pub fn is_same_right(one: &Equation, other: &Equation) -> bool
     let (Right::Tree(right), Right::Tree(other_right)) = (&one.right, &other.right) else {
         return false;
     };
-    reads_same(&one.left, right, &other.left, other_right)
+    reads_same(classes, &one.left, right, &other.left, other_right)
 }
 
 // Whether right sides are the same, each read under the merge of its left side and the other one.
-fn reads_same(left: &Pattern, right: &Pattern, other: &Pattern, other_right: &Pattern) -> bool
-    requires merge { CanMerge left.now other.now }
+fn reads_same(
+    classes: &Classes,
+    left: &Pattern,
+    right: &Pattern,
+    other: &Pattern,
+    other_right: &Pattern,
+) -> bool
+    requires merge { CanMerge classes.now left.now other.now }
     requires right { IsOverLeft left.now right.now }
     requires other_right { IsOverLeft other.now other_right.now }
     ensures { ReadsSame left.now right.now other.now other_right.now result }
@@ -55,15 +61,15 @@ fn reads_same(left: &Pattern, right: &Pattern, other: &Pattern, other_right: &Pa
         let cell = right.cell(at);
         let other_cell = other_right.cell(beside);
         if let Some(variable) = cell.variable() {
-            let part = find(left, other, variable);
-            if !reads_as(other, left, other_right, beside, part) {
+            let part = find(classes, left, other, variable);
+            if !reads_as(classes, other, left, other_right, beside, part) {
                 return false;
             }
             at = right.end_of(at);
             beside = other_right.end_of(beside);
         } else if let Some(variable) = other_cell.variable() {
-            let part = find(other, left, variable);
-            if !reads_as(left, other, right, at, part) {
+            let part = find(classes, other, left, variable);
+            if !reads_as(classes, left, other, right, at, part) {
                 return false;
             }
             at = right.end_of(at);
@@ -80,8 +86,15 @@ fn reads_same(left: &Pattern, right: &Pattern, other: &Pattern, other_right: &Pa
 }
 
 // Whether the part of a right side at a cell reads as a part of the merge that is one of its left side.
-fn reads_as(left: &Pattern, other: &Pattern, right: &Pattern, at: usize, part: MergedPart) -> bool
-    requires merge { CanMerge left.now other.now }
+fn reads_as(
+    classes: &Classes,
+    left: &Pattern,
+    other: &Pattern,
+    right: &Pattern,
+    at: usize,
+    part: MergedPart,
+) -> bool
+    requires merge { CanMerge classes.now left.now other.now }
     requires right { IsOverLeft left.now right.now }
     requires at { at < size right.now }
     requires part { part.at < size left.now }
@@ -100,7 +113,7 @@ fn reads_as(left: &Pattern, other: &Pattern, right: &Pattern, at: usize, part: M
                 at: part.at + k,
                 name: part.name + k,
             };
-            if !is_same_part(left, here, other, find(left, other, variable)) {
+            if !is_same_part(left, here, other, find(classes, left, other, variable)) {
                 return false;
             }
             i = right.end_of(at + i) - at;
@@ -148,8 +161,8 @@ fn is_same_cell(cell: Cell, name: usize, other: Cell, other_name: usize) -> bool
 }
 
 // What a variable of a left side stands for in its merge with another.
-fn find(left: &Pattern, other: &Pattern, variable: u32) -> MergedPart
-    requires merge { CanMerge left.now other.now }
+fn find(classes: &Classes, left: &Pattern, other: &Pattern, variable: u32) -> MergedPart
+    requires merge { CanMerge classes.now left.now other.now }
     requires occurs { (k : ℕ) × OccursAt left.now k variable }
     ensures there { result.at < size other.now }
     ensures name { result.name ≤ 510 }
@@ -165,7 +178,7 @@ fn find(left: &Pattern, other: &Pattern, variable: u32) -> MergedPart
         if cell.variable() == Some(variable) {
             return MergedPart { at: beside, name };
         }
-        match facing_of(cell, other.cell(beside)) {
+        match facing_of(classes, cell, other.cell(beside)) {
             Facing::Clash => unreachable!(),
             Facing::SameHead => {
                 at += 1;

@@ -12,7 +12,7 @@ use crate::breaks::{Break, Breaks};
 use crate::common::has_common;
 use crate::merge::is_same_right;
 use crate::single::tell_singles;
-use eq_base::{Cell, Equation, NoMemory, Rules};
+use eq_base::{Cell, Classes, Equation, NoMemory, Rules};
 use std::alloc::Global;
 
 // The numbers of the restrictions.
@@ -42,8 +42,8 @@ fn push_ambiguous(
     first: usize,
 ) -> Result<(), NoMemory>
     requires rules { AreWellFormed rules.now }
-    requires singles { TellSingles rules.now singles.now }
-    requires first { first < length rules.now }
+    requires singles { TellSingles rules.now.equations singles.now }
+    requires first { first < length rules.now.equations }
     requires before { ListsBefore (IsOfTwo rules.now) 3 first 0 0 found.old }
     ensures { OnOk result (ListsBefore (IsOfTwo rules.now) 3 (first + 1) 0 0 found.new) }
 {
@@ -52,7 +52,7 @@ fn push_ambiguous(
     }
     let one = rules.equation(first);
     for second in first + 1..rules.len() {
-        if singles[second] && are_ambiguous(one, rules.equation(second)) {
+        if singles[second] && are_ambiguous(rules.classes(), one, rules.equation(second)) {
             found.push(Break::new(AMBIGUOUS, first, 0, second))?;
         }
     }
@@ -62,7 +62,7 @@ fn push_ambiguous(
 // Adds the breaks of RE4.
 fn push_all_overlaps(found: &mut Breaks, rules: &Rules, singles: &[bool]) -> Result<(), NoMemory>
     requires rules { AreWellFormed rules.now }
-    requires singles { TellSingles rules.now singles.now }
+    requires singles { TellSingles rules.now.equations singles.now }
     requires before { ListsBefore (IsOfTwo rules.now) 4 0 0 0 found.old }
     ensures { OnOk result (Lists (IsOfTwo rules.now) found.new) }
 {
@@ -80,8 +80,8 @@ fn push_overlaps(
     first: usize,
 ) -> Result<(), NoMemory>
     requires rules { AreWellFormed rules.now }
-    requires singles { TellSingles rules.now singles.now }
-    requires first { first < length rules.now }
+    requires singles { TellSingles rules.now.equations singles.now }
+    requires first { first < length rules.now.equations }
     requires before { ListsBefore (IsOfTwo rules.now) 4 first 0 0 found.old }
     ensures { OnOk result (ListsBefore (IsOfTwo rules.now) 4 (first + 1) 0 0 found.new) }
 {
@@ -103,8 +103,8 @@ fn push_overlaps_at(
     place: usize,
 ) -> Result<(), NoMemory>
     requires rules { AreWellFormed rules.now }
-    requires singles { TellSingles rules.now singles.now }
-    requires first { IsPlaceOf rules.now first place }
+    requires singles { TellSingles rules.now.equations singles.now }
+    requires first { IsPlaceOf rules.now.equations first place }
     requires single { IsTrue (slice_index_or singles.now first false) }
     requires below { 0 < place }
     requires before { ListsBefore (IsOfTwo rules.now) 4 first place 0 found.old }
@@ -115,7 +115,9 @@ fn push_overlaps_at(
         return Ok(());
     }
     for second in 0..rules.len() {
-        if singles[second] && has_common(left, place, &rules.equation(second).left) {
+        if singles[second]
+            && has_common(rules.classes(), left, place, &rules.equation(second).left)
+        {
             found.push(Break::new(OVERLAP, first, place, second))?;
         }
     }
@@ -123,13 +125,13 @@ fn push_overlaps_at(
 }
 
 // Whether left sides have a common instance, and right sides are not the same under the merge.
-fn are_ambiguous(one: &Equation, other: &Equation) -> bool
+fn are_ambiguous(classes: &Classes, one: &Equation, other: &Equation) -> bool
     requires arities { AgreeOnArities one.now.left other.now.left }
     requires one { IsWellFormed one.now × IsSingle one.now }
     requires other { IsWellFormed other.now × IsSingle other.now }
-    ensures { IsTrue result ↔ AreAmbiguous one.now other.now }
+    ensures { IsTrue result ↔ AreAmbiguous classes.now one.now other.now }
 {
-    has_common(&one.left, 0, &other.left) && !is_same_right(one, other)
+    has_common(classes, &one.left, 0, &other.left) && !is_same_right(classes, one, other)
 }
 
 /// Whether a cell is no plain variable.

@@ -47,7 +47,7 @@ fn push_all_unbound(found: &mut Breaks, rules: &Rules) -> Result<(), NoMemory>
 // Adds the breaks of RE1 by one equation.
 fn push_repeated(found: &mut Breaks, rules: &Rules, first: usize) -> Result<(), NoMemory>
     requires rules { AreWellFormed rules.now }
-    requires first { first < length rules.now }
+    requires first { first < length rules.now.equations }
     requires before { ListsBefore (IsOfOne rules.now) 1 first 0 first found.old }
     ensures { OnOk result (ListsBefore (IsOfOne rules.now) 1 (first + 1) 0 (first + 1) found.new) }
 {
@@ -63,7 +63,7 @@ fn push_repeated(found: &mut Breaks, rules: &Rules, first: usize) -> Result<(), 
 // Adds the breaks of RE2 by one equation.
 fn push_unbound(found: &mut Breaks, rules: &Rules, first: usize) -> Result<(), NoMemory>
     requires rules { AreWellFormed rules.now }
-    requires first { first < length rules.now }
+    requires first { first < length rules.now.equations }
     requires before { ListsBefore (IsOfOne rules.now) 2 first 0 first found.old }
     ensures { OnOk result (ListsBefore (IsOfOne rules.now) 2 (first + 1) 0 (first + 1) found.new) }
 {
@@ -81,7 +81,7 @@ fn push_unbound(found: &mut Breaks, rules: &Rules, first: usize) -> Result<(), N
 
 /// Which equations break neither RE1 nor RE2.
 pub fn tell_singles(alloc: Global, rules: &Rules) -> Result<Vec<bool>, NoMemory>
-    ensures { IfOk result (λ singles. TellSingles rules.now singles.items) }
+    ensures { IfOk result (λ singles. TellSingles rules.now.equations singles.items) }
 {
     let mut singles = Vec::new(alloc);
     for number in 0..rules.len() {

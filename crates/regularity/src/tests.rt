@@ -1,5 +1,7 @@
 use crate::{Break, are_well_formed, check_single, overlaps, tell_singles};
-use eq_base::{Cell, Equation, Head, NoMemory, Origin, Pattern, PatternMaker, Right, Rules};
+use eq_base::{
+    Cell, Classes, Equation, Head, NoMemory, Origin, Pattern, PatternMaker, Right, Rules,
+};
 use std::alloc::Global;
 use std::test::Fail;
 
@@ -13,7 +15,7 @@ fn over(alloc: Global, symbol: u32, variable: u32) -> Result<Pattern, NoMemory> 
 
 // The equations 2(x) = 3(x), 2(x) = 2(x) and 3(x) = 2(y).
 fn equations(alloc: Global) -> Result<Rules, NoMemory> {
-    let mut rules = Rules::new(alloc);
+    let mut rules = Rules::new(alloc, Classes::new(alloc));
     for (left, right, variable) in [(2, 3, 0), (2, 2, 0), (3, 2, 1)] {
         rules.push(Equation {
             left: over(alloc, left, 0)?,
@@ -22,6 +24,20 @@ fn equations(alloc: Global) -> Result<Rules, NoMemory> {
         })?;
     }
     Ok(rules)
+}
+
+#[test]
+fn members_take_no_arguments(rt: HostRuntime) -> Result<(), Fail> {
+    let mut classes = Classes::new(rt.alloc());
+    let _none = classes.begin()?;
+    let class = classes.begin()?;
+    assert!(rt; classes.add(class, Head::Numeral(2))?);
+    assert!(rt; classes.add(class, Head::Symbol(2))?);
+    let rules = Rules::new(rt.alloc(), classes);
+    for (arity, wanted) in [(0, true), (1, false)] {
+        assert_eq!(rt; are_well_formed(&rules, &[0, 0, arity]), wanted);
+    }
+    Ok(())
 }
 
 // Each public call once; the tests of `sequentiality` have more lists of equations.

@@ -1,25 +1,34 @@
 // Whether equations are well formed, by a table of the numbers of arguments of symbols.
-ghost use Rattle.std.specs.Prelude.{◌≡◌, ◌↔◌, IsTrue};
+ghost use Rattle.std.specs.Prelude.{◌≡◌, ◌+◌, ◌<◌, ◌≤◌, ◌↔◌, IsTrue, length, All};
+ghost use Rattle.eq_base.specs.ClassLists.{members_of};
 ghost use Rattle.regularity.specs.Arities.{HasArities};
 ghost use Rattle.regularity.specs.WellFormed.{right_size, HasSymbolRoot, IsApplicationOf, AreWellFormed};
 ghost use Rattle.regularity.specs.WellFormed.{arity_by, GivesConstantsNone, IsWellFormedBy};
 ghost use Rattle.regularity.specs.Looking.{HasArityBy};
-ghost use Rattle.regularity.specs.WellFormed.{AreWellFormedBy};
+ghost use Rattle.regularity.specs.WellFormed.{AreWellFormedBy, most_classes};
 
 use builtin::is_schema_left;
 use eq_base::{
-    Cell, Equation, Head, MOST_EQUATIONS, MOST_LEFT_CELLS, MOST_RIGHT_CELLS, Pattern, Right, Rules,
+    Cell, Classes, Equation, FIRST_CLASS, Head, MOST_EQUATIONS, MOST_LEFT_CELLS, MOST_RIGHT_CELLS,
+    Pattern, Right, Rules,
 };
+
+/// The most classes that a file lists.
+pub const MOST_CLASSES: usize = 250;
 
 /// Whether equations are few and small enough, have a symbol at the root of each left side, give an
 /// operation only to its application, and give each head of a left side the number of arguments that a
 /// table has for it, by the numbers of symbols. A symbol past the table has none, as the truth values
-/// have to. It takes no memory, and time linear in the left sides.
+/// and the members of the classes have to. It takes no memory, and time linear in the left sides and classes.
 pub fn are_well_formed(rules: &Rules, arities: &[u8]) -> bool
     ensures exact { IsTrue result ↔ AreWellFormedBy arities.now rules.now }
     ensures well_formed { IsTrue result → AreWellFormed rules.now }
 {
-    if rules.len() > MOST_EQUATIONS || !gives_constants_none(arities) {
+    let classes = rules.classes();
+    if rules.len() > MOST_EQUATIONS
+        || classes.len() > MOST_CLASSES
+        || !gives_constants_none(classes, arities)
+    {
         return false;
     }
     for number in 0..rules.len() {
@@ -100,9 +109,32 @@ fn arity_of(head: Head, arities: &[u8]) -> u8
     }
 }
 
-// Whether a table gives the heads of classes no arguments: of these it holds the truth values alone.
-fn gives_constants_none(arities: &[u8]) -> bool
-    ensures { IsTrue result ↔ GivesConstantsNone arities.now }
+// Whether a table gives the heads of classes no arguments: the truth values, and what the classes list.
+fn gives_constants_none(classes: &Classes, arities: &[u8]) -> bool
+    requires { length classes.now ≤ most_classes }
+    ensures { IsTrue result ↔ GivesConstantsNone arities.now classes.now }
 {
-    arity_of(Head::Symbol(0), arities) == 0 && arity_of(Head::Symbol(1), arities) == 0
+    if arity_of(Head::Symbol(0), arities) > 0 || arity_of(Head::Symbol(1), arities) > 0 {
+        return false;
+    }
+    for number in 0..classes.len() {
+        if !gives_members_none(classes, FIRST_CLASS + number as u8, arities) {
+            return false;
+        }
+    }
+    true
+}
+
+// Whether a table gives the members of a class of the file no arguments.
+fn gives_members_none(classes: &Classes, class: u8, arities: &[u8]) -> bool
+    requires first { 4 ≤ class }
+    requires known { class < 4 + length classes.now }
+    ensures { IsTrue result ↔ All (λ h. arity_by arities.now h ≡ 0) (members_of classes.now class) }
+{
+    for number in 0..classes.members(class) {
+        if arity_of(classes.member(class, number), arities) > 0 {
+            return false;
+        }
+    }
+    true
 }

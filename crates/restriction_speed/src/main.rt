@@ -5,7 +5,7 @@
 ghost use Rattle.std.specs.Prelude.{◌<◌};
 ghost use Rattle.eq_base.specs.Cells.{CellTakesArguments};
 
-use eq_base::{Cell, Equation, Head, Origin, Pattern, PatternMaker, Right, Rules};
+use eq_base::{Cell, Classes, Equation, Head, Origin, Pattern, PatternMaker, Right, Rules};
 use regularity::are_well_formed;
 use sequentiality::{AdmitError, Regular};
 use std::alloc::Global;
@@ -153,7 +153,7 @@ fn equation(alloc: Global, list: &List, number: u32) -> Option<Equation> {
 
 /// How many breaks the list has, if it can be made and is well formed.
 fn count_breaks(alloc: Global, list: &List) -> Option<usize> {
-    let mut rules = Rules::new(alloc);
+    let mut rules = Rules::new(alloc, Classes::new(alloc));
     for number in 0..list.equations {
         rules.push(equation(alloc, list, number)?).ok()?;
     }

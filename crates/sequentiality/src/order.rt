@@ -1,7 +1,7 @@
 // The order in which left sides are tested: RE5.
 ghost use Rattle.std.specs.Prelude.{◌+◌, ◌<◌, ◌↔◌, IsTrue, OnOk, IfOk, length, false, slice_index_or};
 ghost use Rattle.eq_base.specs.Tree.{size, nth_subtree};
-ghost use Rattle.eq_base.specs.Meeting.{in_symbol_class};
+ghost use Rattle.eq_base.specs.Meeting.{in_class_of};
 ghost use Rattle.regularity.specs.Arities.{AgreeOnArities};
 ghost use Rattle.regularity.specs.Single.{TellSingles};
 ghost use Rattle.regularity.specs.Listing.{IsOrdered, Lists};
@@ -11,7 +11,7 @@ ghost use Rattle.sequentiality.specs.Comparing.{HasFirstMismatch};
 ghost use Rattle.sequentiality.specs.Violations.{IsEarlier, IsTold, IsNotSequential};
 
 use crate::comparison::{Comparison, compare};
-use eq_base::{NoMemory, Pattern, Rules};
+use eq_base::{Classes, NoMemory, Pattern, Rules};
 use regularity::{Break, Breaks, is_tested, tell_singles};
 use std::alloc::Global;
 
@@ -46,8 +46,8 @@ fn push_breaks(
 ) -> Result<(), NoMemory>
     requires rules { AreWellFormed rules.now }
     requires earlier { Lists (IsEarlier rules.now) earlier.now }
-    requires singles { TellSingles rules.now singles.now }
-    requires first { first < length rules.now }
+    requires singles { TellSingles rules.now.equations singles.now }
+    requires first { first < length rules.now.equations }
     requires before { ListsBefore (IsNotSequential rules.now) 5 first 0 0 found.old }
     ensures { OnOk result (ListsBefore (IsNotSequential rules.now) 5 (first + 1) 0 0 found.new) }
 {
@@ -71,8 +71,8 @@ fn push_breaks_at(
 ) -> Result<(), NoMemory>
     requires rules { AreWellFormed rules.now }
     requires earlier { Lists (IsEarlier rules.now) earlier.now }
-    requires singles { TellSingles rules.now singles.now }
-    requires first { IsPlaceOf rules.now first place }
+    requires singles { TellSingles rules.now.equations singles.now }
+    requires first { IsPlaceOf rules.now.equations first place }
     requires single { IsTrue (slice_index_or singles.now first false) }
     requires before { ListsBefore (IsNotSequential rules.now) 5 first place 0 found.old }
     ensures { OnOk result (ListsBefore (IsNotSequential rules.now) 5 first (place + 1) 0 found.new) }
@@ -84,7 +84,7 @@ fn push_breaks_at(
     let from = if place == 0 { first + 1 } else { 0 };
     for second in from..rules.len() {
         if singles[second]
-            && mismatches(left, place, &rules.equation(second).left)
+            && mismatches(rules.classes(), left, place, &rules.equation(second).left)
             && !is_told(earlier, first, place, second)
         {
             found.push(Break::new(NOT_SEQUENTIAL, first, place, second))?;
@@ -94,12 +94,16 @@ fn push_breaks_at(
 }
 
 // Whether a comparison comes to a mismatch.
-fn mismatches(left: &Pattern, place: usize, other: &Pattern) -> bool
+fn mismatches(classes: &Classes, left: &Pattern, place: usize, other: &Pattern) -> bool
     requires place { place < size left.now }
     requires arities { AgreeOnArities (nth_subtree left.now place) other.now }
-    ensures { IsTrue result ↔ HasFirstMismatch in_symbol_class (nth_subtree left.now place) other.now }
+    ensures { IsTrue result
+        ↔ HasFirstMismatch (in_class_of classes.now) (nth_subtree left.now place) other.now }
 {
-    matches!(compare(left, place, other), Comparison::Mismatch(_))
+    matches!(
+        compare(classes, left, place, other),
+        Comparison::Mismatch(_)
+    )
 }
 
 // Whether RE3 or RE4 is broken by the same equations at the same place.

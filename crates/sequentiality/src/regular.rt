@@ -20,22 +20,20 @@ pub enum AdmitError {
     NoMemory,
 }
 
-/// Equations that keep all restrictions.
+/// Equations that keep all restrictions, with the classes of their file.
 #[derive(Drop)]
 pub struct Regular {
     rules: Rules,
 }
 
 impl Model for Regular {
-    ghost use Rattle.std.specs.Prelude.{List};
-    ghost use Rattle.std.specs.Coded.{coded_list};
-    ghost use Rattle.eq_base.specs.contracts.rules.Equation as equation_type;
-    ghost use Rattle.eq_base.specs.declared.rules.Equation.{Equation};
+    ghost use Rattle.eq_base.specs.contracts.rules.Rules as rules_type;
+    ghost use Rattle.eq_base.specs.RuleList.{RuleList};
     ghost use Rattle.sequentiality.specs.Regular.{AreRegular};
 
-    ghost Value = { List Equation };
+    ghost Value = { RuleList };
 
-    ghost coded = { coded_list equation_type.the_row.coded };
+    ghost coded = { rules_type.the_row.coded };
 
     ghost view = { λ r. r.rules };
 

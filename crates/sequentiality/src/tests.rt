@@ -2,7 +2,10 @@ ghost use Rattle.eq_base.specs.Cells.{CellTakesArguments};
 ghost use Rattle.regularity.specs.WellFormed.{AreWellFormed};
 
 use crate::{AdmitError, Comparison, Regular, compare};
-use eq_base::{Cell, Equation, Head, NoMemory, Origin, Pattern, PatternMaker, Right, Rules};
+use eq_base::{
+    Cell, Classes, Equation, FIRST_CLASS, Head, NoMemory, Origin, Pattern, PatternMaker, Right,
+    Rules,
+};
 use regularity::{Breaks, are_well_formed};
 use std::alloc::Global;
 use std::test::Fail;
@@ -11,13 +14,15 @@ use std::test::Fail;
 const NUMERALS: u8 = 0;
 
 // Equations in a short notation: a letter for each cell in preorder. x, y and z are variables, n is one of the class
-// of numerals, t is the truth value that has the number 0, and every other letter is a symbol.
+// of numerals, u, v and w are ones of the classes of the file, t is the truth value that has the number 0, and every
+// other letter is a symbol.
 fn cell_of(letter: u8) -> Cell
     ensures { CellTakesArguments result }
 {
     match letter {
         b'x' | b'y' | b'z' => Cell::Var(u32::from(letter)),
         b'n' => Cell::Class(u32::from(letter), NUMERALS),
+        b'u' | b'v' | b'w' => Cell::Class(u32::from(letter), FIRST_CLASS + (letter - b'u')),
         b't' => Cell::Head(Head::Symbol(0), 0),
         b'0' | b'1' | b'2' => Cell::Head(Head::Numeral(i128::from(letter)), 0),
         _ => Cell::Head(Head::Symbol(u32::from(letter)), arity_of(letter)),
@@ -59,9 +64,22 @@ fn pattern(alloc: Global, letters: &str) -> Result<Option<Pattern>, NoMemory> {
     })
 }
 
+// The classes of the file: 0 and 1, 1 and 2, and none.
+fn classes(alloc: Global) -> Result<Classes, NoMemory> {
+    let mut classes = Classes::new(alloc);
+    let first = classes.begin()?;
+    let second = classes.begin()?;
+    let _none = classes.begin()?;
+    classes.add(first, Head::Numeral(i128::from(b'0')))?;
+    classes.add(first, Head::Numeral(i128::from(b'1')))?;
+    classes.add(second, Head::Numeral(i128::from(b'1')))?;
+    classes.add(second, Head::Numeral(i128::from(b'2')))?;
+    Ok(classes)
+}
+
 // The equations with these sides, if they are equations.
 fn rules_of(alloc: Global, sides: &[(&str, &str)]) -> Result<Option<Rules>, NoMemory> {
-    let mut rules = Rules::new(alloc);
+    let mut rules = Rules::new(alloc, classes(alloc)?);
     for (left, right) in sides {
         let Some(left) = pattern(alloc, left)? else {
             return Ok(None);
@@ -107,7 +125,7 @@ fn compared(rules: &Rules, place: usize) -> Option<Comparison>
     let one = rules.equation(0);
     let other = rules.equation(1);
     if place < one.left.len() {
-        Some(compare(&one.left, place, &other.left))
+        Some(compare(rules.classes(), &one.left, place, &other.left))
     } else {
         None
     }
@@ -192,6 +210,14 @@ fn equations_are_admitted_without_breaks(rt: HostRuntime) -> Result<(), Fail> {
         (
             [("ha", "c"), ("hb", "c"), ("ha", "d")].as_slice(),
             [(3, 0, 0, 2)].as_slice(),
+        ),
+        (
+            [("hu", "u"), ("hv", "v"), ("hw", "1")].as_slice(),
+            [].as_slice(),
+        ),
+        (
+            [("hu", "1"), ("hv", "2"), ("h2", "2"), ("hn", "1")].as_slice(),
+            [(3, 0, 0, 1), (3, 1, 0, 3), (3, 2, 0, 3)].as_slice(),
         ),
         (
             [("hx", "c"), ("ha", "c")].as_slice(),

@@ -1,21 +1,24 @@
 -- Numbers for all heads as they are read: those of a table for its atoms and texts, and others, one each, for all other bytes.
-use Rattle.std.proofs.Common.{◌≡◌, ℕ, zero, suc, ◌<◌, Bool, true, false, cond, List, [], ◌∷◌, length, Some, refl, sym, ◌∙◌, ap, arith}
-use Rattle.std.specs.Prelude.{slice_get, slice_index_or, bytes_eq}
+use Rattle.std.proofs.Common.{◌≡◌, ◌⊎◌, inl, inr, ℕ, zero, suc, ◌<◌, ◌≤◌, Bool, true, false, cond, List, [], ◌∷◌, map, length, Some, refl, sym, ◌∙◌, ap, arith}
+use Rattle.std.specs.Prelude.{◌↔◌, IsTrue, All, nat_le, slice_get, slice_index_or, bytes_eq}
+use Rattle.std.proofs.lemmas.Bool.Decides.{leb_tells}
+use Rattle.std.proofs.lemmas.Option.{slice_get-get_or}
 use Rattle.std.proofs.lemmas.Slice.Eq.{bytes_eq-Decides}
 use Rattle.eq_base.specs.Tree.{Tree, Forest, node, empty, grow, map_heads, map_all_heads, AllHeadsIn}
 use Rattle.eq_base.specs.Pattern.{PatternCell, fixed, variable, restricted}
 use Rattle.eq_base.specs.Rewriting.{pattern}
 use Rattle.eq_base.specs.Rules.{right_side, rule_of}
-use Rattle.eq_base.specs.Meeting.{in_symbol_class}
+use Rattle.eq_base.specs.Meeting.{in_symbol_class, same_head, in_class_of}
 use Rattle.eq_base.specs.Mapping.{map_cell, map_pattern, map_right, map_rule}
-use Rattle.eq_base.specs.ReadHead.{ReadHead, symbol, numeral, atom, text, in_read_class}
+use Rattle.eq_base.specs.ReadHead.{ReadHead, symbol, numeral, atom, text, in_read_symbol_class, same_read_head, in_read_class}
 use Rattle.eq_base.specs.declared.head.Head.{Head}
 use Rattle.eq_base.specs.declared.head.Head.TheVariants.{Symbol, Numeral, Atom, Text}
 use Rattle.eq_base.specs.declared.rules.Right.{Right}
 use Rattle.eq_base.specs.declared.rules.Right.TheVariants as rights
 use Rattle.eq_base.specs.declared.rules.Equation.{Equation}
+use Rattle.eq_base.proofs.ClassMembers.{same_head_decides, same_read_head_decides, same_tests, class-map}
 use Rattle.symbol_table.specs.Table.{Table, AreDistinct, HasOneNumberEach}
-use Rattle.symbol_table.specs.Reading.{read_head, read, read_pattern, read_rule, IsLiveHead, IsLiveTerm, IsLiveCell, IsLivePattern, IsLiveRight, IsLiveEquation}
+use Rattle.symbol_table.specs.Reading.{read_head, read, read_pattern, read_rule, read_classes, IsLiveHead, IsLiveTerm, IsLiveCell, IsLivePattern, IsLiveRight, IsLiveEquation, AreLiveClasses}
 
 -- ---- lists of numbers as numbers
 
@@ -66,47 +69,110 @@ nth-index : (xs : List ℕ) → nth_list (index_of xs) ≡ xs
 nth-index [] = refl
 nth-index (x ∷ xs) = nth-doubled x (index_of xs) ∙ ap (λ xs. x ∷ xs) (nth-index xs)
 
+index-raise : (xs : List ℕ) → index_of (raise xs) ≡ twice (index_of xs)
+index-raise [] = refl
+index-raise (x ∷ xs) = refl
+
+index-next : (xs : List ℕ) → index_of (next xs) ≡ suc (index_of xs)
+index-next [] = refl
+index-next (zero ∷ xs) = index-raise (next xs) ∙ ap twice (index-next xs)
+index-next (suc x ∷ xs) = refl
+
+index-nth : (n : ℕ) → index_of (nth_list n) ≡ n
+index-nth zero = refl
+index-nth (suc n) = index-next (nth_list n) ∙ ap suc (index-nth n)
+
+-- ---- numbers round a gap
+
+-- the number with the gap left out: from the gap on it is one more
+abbrev past_gap : ℕ → ℕ → ℕ
+past_gap zero n = suc n
+past_gap (suc m) zero = zero
+past_gap (suc m) (suc n) = suc (past_gap m n)
+
+-- the number with the gap closed: past the gap it is one less
+abbrev before_gap : ℕ → ℕ → ℕ
+before_gap zero zero = zero
+before_gap zero (suc n) = n
+before_gap (suc m) zero = zero
+before_gap (suc m) (suc n) = suc (before_gap m n)
+
+past-before : (m n : ℕ) → (n ≡ m → ⊥) → past_gap m (before_gap m n) ≡ n
+past-before zero zero other = absurd (other refl)
+past-before zero (suc n) other = refl
+past-before (suc m) zero other = refl
+past-before (suc m) (suc n) other = ap suc (past-before m n (λ e. other (ap suc e)))
+
+before-past : (m n : ℕ) → before_gap m (past_gap m n) ≡ n
+before-past zero n = refl
+before-past (suc m) zero = refl
+before-past (suc m) (suc n) = ap suc (before-past m n)
+
+past_gap-other : (m n : ℕ) → past_gap m n ≡ m → ⊥
+past_gap-other zero n e = omega (arith, e)
+past_gap-other (suc m) zero e = omega (arith, e)
+past_gap-other (suc m) (suc n) e = past_gap-other m n (omega (arith, e))
+
+past_gap-below : (m n : ℕ) → n < m → past_gap m n ≡ n
+past_gap-below zero n lt = absurd (omega (arith, lt))
+past_gap-below (suc m) zero lt = refl
+past_gap-below (suc m) (suc n) lt = ap suc (past_gap-below m n (omega arith))
+
 -- ---- bytes by number
 
--- the bytes with the number: those of the list come first, and all bytes after them
+-- the number of the bytes: those of the list come first, and all other bytes after them
+abbrev pub number_in : List (List ℕ) → List ℕ → ℕ
+number_in [] bytes = index_of bytes
+number_in (x ∷ xs) bytes = cond (bytes_eq x bytes) 0 (suc (before_gap (number_in xs x) (number_in xs bytes)))
+
+-- the bytes with the number
 abbrev pub bytes_at : List (List ℕ) → ℕ → List ℕ
 bytes_at [] n = nth_list n
 bytes_at (x ∷ xs) zero = x
-bytes_at (x ∷ xs) (suc n) = bytes_at xs n
-
--- the first number of the bytes
-abbrev pub number_in : List (List ℕ) → List ℕ → ℕ
-number_in [] bytes = index_of bytes
-number_in (x ∷ xs) bytes = cond (bytes_eq x bytes) 0 (suc (number_in xs bytes))
+bytes_at (x ∷ xs) (suc n) = bytes_at xs (past_gap (number_in xs x) n)
 
 pub bytes_at-number : (xs : List (List ℕ)) (bytes : List ℕ) → bytes_at xs (number_in xs bytes) ≡ bytes
 bytes_at-number [] bytes = nth-index bytes
-bytes_at-number (x ∷ xs) bytes = by_test (bytes_eq x bytes) ((bytes_eq-Decides x bytes).0) (bytes_at-number xs bytes)
+bytes_at-number (x ∷ xs) bytes = by_test (bytes_eq x bytes) (bytes_eq-Decides x bytes) (bytes_at-number xs x) (bytes_at-number xs bytes)
   where
-    by_test : (b : Bool) → (b ≡ true → x ≡ bytes) → bytes_at xs (number_in xs bytes) ≡ bytes → bytes_at (x ∷ xs) (cond b 0 (suc (number_in xs bytes))) ≡ bytes
-    by_test true same rest = same refl
-    by_test false same rest = rest
+    by_test : (b : Bool) → IsTrue b ↔ (x ≡ bytes) → bytes_at xs (number_in xs x) ≡ x → bytes_at xs (number_in xs bytes) ≡ bytes
+        → bytes_at (x ∷ xs) (cond b 0 (suc (before_gap (number_in xs x) (number_in xs bytes)))) ≡ bytes
+    by_test true same first rest = same.0 refl
+    by_test false same first rest =
+        ap (bytes_at xs) (past-before (number_in xs x) (number_in xs bytes) (λ e. let z = same.1 (sym first ∙ ap (bytes_at xs) (sym e) ∙ rest) in absurd (cc))) ∙ rest
 
-pub bytes_at-there : (xs : List (List ℕ)) (n : ℕ) → n < length xs → bytes_at xs n ≡ slice_index_or xs n []
-bytes_at-there [] n lt = absurd (omega arith)
-bytes_at-there (x ∷ xs) zero lt = refl
-bytes_at-there (x ∷ xs) (suc n) lt = bytes_at-there xs n (omega arith)
-
-listed : (xs : List (List ℕ)) (n : ℕ) → n < length xs → slice_get xs n ≡ Some (bytes_at xs n)
-listed [] n lt = absurd (omega arith)
-listed (x ∷ xs) zero lt = refl
-listed (x ∷ xs) (suc n) lt = listed xs n (omega arith)
-
-pub number-bytes_at : (xs : List (List ℕ)) → AreDistinct xs → (n : ℕ) → n < length xs → number_in xs (bytes_at xs n) ≡ n
-number-bytes_at [] distinct n lt = absurd (omega arith)
-number-bytes_at (x ∷ xs) distinct zero lt = ap (λ b. cond b 0 (suc (number_in xs x))) ((bytes_eq-Decides x x).1 refl)
-number-bytes_at (x ∷ xs) distinct (suc n) lt =
-    by_test (bytes_eq x (bytes_at xs n)) ((bytes_eq-Decides x (bytes_at xs n)).0)
-    (number-bytes_at xs (λ bytes one other e e'. let z = distinct bytes (suc one) (suc other) e e' in omega (arith, z)) n (omega arith))
+pub number-bytes_at : (xs : List (List ℕ)) (n : ℕ) → number_in xs (bytes_at xs n) ≡ n
+number-bytes_at [] n = index-nth n
+number-bytes_at (x ∷ xs) zero = ap (λ b. cond b 0 (suc (before_gap (number_in xs x) (number_in xs x)))) ((bytes_eq-Decides x x).1 refl)
+number-bytes_at (x ∷ xs) (suc n) =
+    let m = past_gap (number_in xs x) n in
+    by_test (bytes_eq x (bytes_at xs m)) (bytes_eq-Decides x (bytes_at xs m)) (number-bytes_at xs m)
   where
-    by_test : (b : Bool) → (b ≡ true → x ≡ bytes_at xs n) → number_in xs (bytes_at xs n) ≡ n → cond b 0 (suc (number_in xs (bytes_at xs n))) ≡ suc n
-    by_test true same rest = distinct (bytes_at xs n) 0 (suc n) (ap Some (same refl)) (listed xs n (omega arith))
-    by_test false same rest = ap suc rest
+    by_test : (b : Bool) → IsTrue b ↔ (x ≡ bytes_at xs (past_gap (number_in xs x) n)) → number_in xs (bytes_at xs (past_gap (number_in xs x) n)) ≡ past_gap (number_in xs x) n
+        → cond b 0 (suc (before_gap (number_in xs x) (number_in xs (bytes_at xs (past_gap (number_in xs x) n))))) ≡ suc n
+    by_test true same rest = absurd (past_gap-other (number_in xs x) n (sym rest ∙ ap (number_in xs) (sym (same.0 refl))))
+    by_test false same rest = ap (λ k. suc (before_gap (number_in xs x) k)) rest ∙ ap suc (before-past (number_in xs x) n)
+
+distinct_rest : (x : List ℕ) (xs : List (List ℕ)) → AreDistinct (x ∷ xs) → AreDistinct xs
+distinct_rest x xs distinct = λ bytes one other e e'. let z = distinct bytes (suc one) (suc other) e e' in omega (arith, z)
+
+-- the numbers of the list are its own
+pub bytes_at-there : (xs : List (List ℕ)) → AreDistinct xs → (n : ℕ) → n < length xs → bytes_at xs n ≡ slice_index_or xs n []
+bytes_at-there [] distinct n lt = absurd (omega arith)
+bytes_at-there (x ∷ xs) distinct zero lt = refl
+bytes_at-there (x ∷ xs) distinct (suc n) lt =
+    let rest = bytes_at-there xs (distinct_rest x xs distinct) in
+    ap (bytes_at xs) (past_gap-below (number_in xs x) n (by_order rest (leb_tells (length xs) (number_in xs x)))) ∙ rest n (omega arith)
+  where
+    twice_there : (k : ℕ) → slice_get xs k ≡ Some x → ⊥
+    twice_there k at = let z = distinct x 0 (suc k) refl at in omega (arith, z)
+
+    by_order : ((k : ℕ) → k < length xs → bytes_at xs k ≡ slice_index_or xs k [])
+        → ((nat_le (length xs) (number_in xs x) ≡ true) × (length xs ≤ number_in xs x)) ⊎ ((nat_le (length xs) (number_in xs x) ≡ false) × (number_in xs x < length xs))
+        → n < number_in xs x
+    by_order rest (inl le) = omega (arith, le.1, lt)
+    by_order rest (inr below) =
+        absurd (twice_there (number_in xs x) (slice_get-get_or xs (number_in xs x) [] below.1 ∙ ap Some (sym (rest (number_in xs x) below.1) ∙ bytes_at-number xs x)))
 
 -- ---- heads by number
 
@@ -130,17 +196,24 @@ read-head_for table (numeral i) = refl
 read-head_for table (atom bytes) = ap atom (bytes_at-number table.atoms bytes)
 read-head_for table (text bytes) = ap text (bytes_at-number table.texts bytes)
 
-pub class-head_for : (table : Table) (class : ℕ) (h : ReadHead) → in_symbol_class class (head_for table h) ≡ in_read_class class h
-class-head_for table class (symbol s) = refl
-class-head_for table class (numeral i) = refl
-class-head_for table class (atom bytes) = refl
-class-head_for table class (text bytes) = refl
+pub head_for-read : (table : Table) (h : Head) → head_for table (read_all table h) ≡ h
+head_for-read table (Symbol s) = refl
+head_for-read table (Numeral i) = refl
+head_for-read table (Atom a) = ap Atom (number-bytes_at table.atoms a)
+head_for-read table (Text t) = ap Text (number-bytes_at table.texts t)
 
-pub class-read_all : (table : Table) (class : ℕ) (h : Head) → in_read_class class (read_all table h) ≡ in_symbol_class class h
-class-read_all table class (Symbol s) = refl
-class-read_all table class (Numeral i) = refl
-class-read_all table class (Atom a) = refl
-class-read_all table class (Text t) = refl
+symbols-read_all : (table : Table) (class : ℕ) (h : Head) → in_read_symbol_class class (read_all table h) ≡ in_symbol_class class h
+symbols-read_all table class (Symbol s) = refl
+symbols-read_all table class (Numeral i) = refl
+symbols-read_all table class (Atom a) = refl
+symbols-read_all table class (Text t) = refl
+
+-- heads are the same exactly where they are read alike
+same-read_all : (table : Table) (h g : Head) → same_read_head (read_all table h) (read_all table g) ≡ same_head h g
+same-read_all table h g =
+    same_tests _ _
+    (λ e. (same_head_decides h g).1 (sym (head_for-read table h) ∙ ap (head_for table) ((same_read_head_decides (read_all table h) (read_all table g)).0 e) ∙ head_for-read table g))
+    (λ e. (same_read_head_decides (read_all table h) (read_all table g)).1 (ap (read_all table) ((same_head_decides h g).0 e)))
 
 -- ---- live heads are read one to one
 
@@ -148,14 +221,11 @@ module _ (table : Table) (one : HasOneNumberEach table) where
   pub live-read : (h : Head) → IsLiveHead table h → read_all table h ≡ read_head table h
   live-read (Symbol s) live = refl
   live-read (Numeral i) live = refl
-  live-read (Atom a) live = ap atom (bytes_at-there table.atoms a live)
-  live-read (Text t) live = ap text (bytes_at-there table.texts t live)
+  live-read (Atom a) live = ap atom (bytes_at-there table.atoms one.atoms a live)
+  live-read (Text t) live = ap text (bytes_at-there table.texts one.texts t live)
 
   pub live-head_for : (h : Head) → IsLiveHead table h → head_for table (read_head table h) ≡ h
-  live-head_for (Symbol s) live = refl
-  live-head_for (Numeral i) live = refl
-  live-head_for (Atom a) live = ap (λ b. Atom (number_in table.atoms b)) (sym (bytes_at-there table.atoms a live)) ∙ ap Atom (number-bytes_at table.atoms one.atoms a live)
-  live-head_for (Text t) live = ap (λ b. Text (number_in table.texts b)) (sym (bytes_at-there table.texts t live)) ∙ ap Text (number-bytes_at table.texts one.texts t live)
+  live-head_for h live = ap (head_for table) (sym (live-read h live)) ∙ head_for-read table h
 
   mutual
     pub live-term : (t : Tree Head) → IsLiveTerm table t → map_heads (read_all table) t ≡ read table t
@@ -216,3 +286,28 @@ module _ (table : Table) (one : HasOneNumberEach table) where
   -- live heads that are read alike are the same
   pub read_apart : (h k : Head) → IsLiveHead table h → IsLiveHead table k → read_head table h ≡ read_head table k → h ≡ k
   read_apart h k live live' e = sym (live-head_for h live) ∙ ap (head_for table) e ∙ live-head_for k live'
+
+  -- ---- classes
+
+  live-members : (heads : List Head) → All (IsLiveHead table) heads → map (read_all table) heads ≡ map (read_head table) heads
+  live-members [] live = refl
+  live-members (h ∷ heads) live = rw (live-read h (live 0 h (omega arith)), live-members heads (λ n d lt. live (suc n) d (omega arith))) refl
+
+  live-classes : (classes : List (List Head)) → AreLiveClasses table classes → map (λ heads. map (read_all table) heads) classes ≡ read_classes table classes
+  live-classes [] live = refl
+  live-classes (heads ∷ classes) live = rw (live-members heads (live 0 heads (omega arith)), live-classes classes (λ n d lt. live (suc n) d (omega arith))) refl
+
+  -- Live classes have the heads that their read ones have.
+  module _ (classes : List (List Head)) (live : AreLiveClasses table classes) where
+    pub class-read_all : (class : ℕ) (h : Head) → in_read_class (read_classes table classes) class (read_all table h) ≡ in_class_of classes class h
+    class-read_all class h =
+        ap (λ read. in_read_class read class (read_all table h)) (sym (live-classes classes live))
+        ∙ class-map same_head same_read_head (read_all table) in_symbol_class in_read_symbol_class classes class h (symbols-read_all table class h) (λ g there. same-read_all table h g)
+
+    pub class-head_for : (class : ℕ) (h : ReadHead) → in_class_of classes class (head_for table h) ≡ in_read_class (read_classes table classes) class h
+    class-head_for class h =
+        sym (class-read_all class (head_for table h)) ∙ ap (in_read_class (read_classes table classes) class) (read-head_for table h)
+
+    -- and so they have the live heads
+    pub class-read_head : (class : ℕ) (h : Head) → IsLiveHead table h → in_read_class (read_classes table classes) class (read_head table h) ≡ in_class_of classes class h
+    class-read_head class h is_live = ap (in_read_class (read_classes table classes) class) (sym (live-read h is_live)) ∙ class-read_all class h

@@ -1,21 +1,21 @@
 -- What is read stays as it was while a table grows.
 use Rattle.std.proofs.Common.{◌≡◌, ℕ, suc, ◌<◌, List, [], ◌∷◌, map, length, refl, sym, ◌∙◌, ap, arith, length-append}
 use Rattle.std.proofs.lemmas.List.{get_or_append_left}
-use Rattle.std.specs.Prelude.{slice_index_or}
+use Rattle.std.specs.Prelude.{All, slice_index_or}
 use Rattle.eq_base.specs.Tree.{Tree, Forest, node, empty, grow, map_all_heads, AllHeadsIn}
 use Rattle.eq_base.specs.Pattern.{PatternCell, fixed, variable, restricted}
 use Rattle.eq_base.specs.Rewriting.{pattern}
+use Rattle.eq_base.specs.RuleList.{RuleList}
 use Rattle.eq_base.specs.Rules.{right_side}
 use Rattle.eq_base.specs.Mapping.{map_cell, map_right}
-use Rattle.eq_base.specs.ReadHead.{atom, text, in_read_class}
-use Rattle.eq_base.specs.Operations.{value_of}
+use Rattle.eq_base.specs.ReadHead.{atom, text}
 use Rattle.eq_base.specs.declared.head.Head.{Head}
 use Rattle.eq_base.specs.declared.head.Head.TheVariants.{Symbol, Numeral, Atom, Text}
 use Rattle.eq_base.specs.declared.rules.Right.{Right}
 use Rattle.eq_base.specs.declared.rules.Right.TheVariants as rights
 use Rattle.eq_base.specs.declared.rules.Equation.{Equation}
 use Rattle.symbol_table.specs.Table.{Table, IsFront, Keeps}
-use Rattle.symbol_table.specs.Reading.{read_head, read, read_pattern, read_rule, read_system, IsLiveHead, IsLiveTerm, IsLiveCell, IsLivePattern, IsLiveRight, IsLiveEquation, AreLive}
+use Rattle.symbol_table.specs.Reading.{read_head, read, read_pattern, read_rule, read_classes, read_system, IsLiveHead, IsLiveTerm, IsLiveCell, IsLivePattern, IsLiveRight, IsLiveEquation, AreLiveEquations, AreLiveClasses, AreLive}
 use Rattle.symbol_table.proofs.Keeping.{declared_as}
 
 front_there : (old new : List (List ℕ)) (n : ℕ) → IsFront old new → n < length old → slice_index_or new n [] ≡ slice_index_or old n []
@@ -90,12 +90,26 @@ module _ (old new : Table) (k : Keeps old new) where
   pub rule_kept : (e : Equation) → IsLiveEquation old e → read_rule new e ≡ read_rule old e
   rule_kept e live = rw (pattern_kept e.left live.left, right_kept e.right live.right) refl
 
-  pub equations_kept : (es : List Equation) → AreLive old es → AreLive new es
+  pub equations_kept : (es : List Equation) → AreLiveEquations old es → AreLiveEquations new es
   equations_kept es live = λ n d lt. let l = live n d lt in record { left = live_pattern_kept _ l.left; right = live_right_kept _ l.right }
 
-  rules_kept : (es : List Equation) → AreLive old es → map (read_rule new) es ≡ map (read_rule old) es
+  rules_kept : (es : List Equation) → AreLiveEquations old es → map (read_rule new) es ≡ map (read_rule old) es
   rules_kept [] live = refl
   rules_kept (e ∷ es) live = rw (rule_kept e (live 0 e (omega arith)), rules_kept es (λ n d lt. live (suc n) d (omega arith))) refl
 
-  pub system_kept : (es : List Equation) → AreLive old es → read_system new es ≡ read_system old es
-  system_kept es live = ap (λ rules. record { rules = rules; in_class = in_read_class; value_of = value_of }) (rules_kept es live)
+  members_kept : (heads : List Head) → All (IsLiveHead old) heads → map (read_head new) heads ≡ map (read_head old) heads
+  members_kept [] live = refl
+  members_kept (h ∷ heads) live = rw (head_kept h (live 0 h (omega arith)), members_kept heads (λ n d lt. live (suc n) d (omega arith))) refl
+
+  pub classes_kept : (classes : List (List Head)) → AreLiveClasses old classes → read_classes new classes ≡ read_classes old classes
+  classes_kept [] live = refl
+  classes_kept (heads ∷ classes) live = rw (members_kept heads (live 0 heads (omega arith)), classes_kept classes (λ n d lt. live (suc n) d (omega arith))) refl
+
+  pub live_classes_kept : (classes : List (List Head)) → AreLiveClasses old classes → AreLiveClasses new classes
+  live_classes_kept classes live = λ n d lt k h there. live_kept _ (live n d lt k h there)
+
+  pub live_rules_kept : (rules : RuleList) → AreLive old rules → AreLive new rules
+  live_rules_kept rules live = record { classes = live_classes_kept rules.classes live.classes; equations = equations_kept rules.equations live.equations }
+
+  pub system_kept : (rules : RuleList) → AreLive old rules → read_system new rules ≡ read_system old rules
+  system_kept rules live = rw (rules_kept rules.equations live.equations, classes_kept rules.classes live.classes) refl

@@ -1,8 +1,9 @@
--- Heads, terms and equations as they are read by a table.
+-- Heads, terms, equations and classes as they are read by a table.
 use Rattle.std.specs.Prelude.{◌<◌, List, [], map, length, slice_index_or, All}
 use Rattle.eq_base.specs.Tree.{Tree, map_heads, AllHeads}
 use Rattle.eq_base.specs.Pattern.{PatternCell, fixed, variable, restricted}
 use Rattle.eq_base.specs.Rewriting.{Rule, System}
+use Rattle.eq_base.specs.RuleList.{RuleList}
 use Rattle.eq_base.specs.Rules.{rule_of}
 use Rattle.eq_base.specs.ReadHead.{ReadHead, symbol, numeral, atom, text, in_read_class}
 use Rattle.eq_base.specs.Mapping.{map_pattern, map_rule}
@@ -35,11 +36,16 @@ read_pattern table p = map_pattern (read_head table) p
 abbrev pub read_rule : Table → Equation → Rule ReadHead
 read_rule table e = map_rule (read_head table) (rule_of e)
 
--- rewriting by the equations as they are read, with the symbol classes and the values of operations
-abbrev pub read_system : Table → List Equation → System ReadHead
-read_system table equations = record {
-  rules = map (read_rule table) equations;
-  in_class = in_read_class;
+-- the classes as they are read
+abbrev pub read_classes : Table → List (List Head) → List (List ReadHead)
+read_classes table classes = map (λ heads. map (read_head table) heads) classes
+
+-- rewriting by the equations as they are read, with the symbol classes, their own classes and the values of
+-- operations
+abbrev pub read_system : Table → RuleList → System ReadHead
+read_system table rules = record {
+  rules = map (read_rule table) rules.equations;
+  in_class = in_read_class (read_classes table rules.classes);
   value_of = value_of;
 }
 
@@ -77,5 +83,14 @@ pub record IsLiveEquation (table : Table) (e : Equation) : Type 0 where
   pub right : IsLiveRight table e.right
 
 -- each number in the equations is live
-abbrev pub AreLive : Table → List Equation → Type 0
-AreLive table equations = All (IsLiveEquation table) equations
+abbrev pub AreLiveEquations : Table → List Equation → Type 0
+AreLiveEquations table equations = All (IsLiveEquation table) equations
+
+-- each number in the classes is live
+abbrev pub AreLiveClasses : Table → List (List Head) → Type 0
+AreLiveClasses table classes = All (λ heads. All (IsLiveHead table) heads) classes
+
+-- each number in the equations and their classes is live
+pub record AreLive (table : Table) (rules : RuleList) : Type 0 where
+  pub classes : AreLiveClasses table rules.classes
+  pub equations : AreLiveEquations table rules.equations

@@ -9,6 +9,7 @@ mod variables;
 
 pub use classes::class_named;
 pub use error::SymbolError;
+pub use interned::Interned;
 pub use symbols::{Mark, Symbols};
 pub use variables::Variables;
 

@@ -71,6 +71,10 @@ pub enum FaultKind {
     ExpansionPast,
     /// A variable with alternatives depends on itself.
     QualifierCircle,
+    /// The file defines more than 250 classes of constants.
+    ClassesPast,
+    /// The classes of the file list more than 4,096 members together.
+    MembersPast,
     /// The file uses a part of the language that this version does not take.
     NotYet,
 }
@@ -109,6 +113,8 @@ impl FaultKind {
             FaultKind::QualifiedTwice => 38,
             FaultKind::ExpansionPast => 40,
             FaultKind::QualifierCircle => 41,
+            FaultKind::ClassesPast => 42,
+            FaultKind::MembersPast => 43,
             FaultKind::NotYet => 50,
         }
     }
@@ -146,6 +152,8 @@ impl FaultKind {
             FaultKind::QualifiedTwice => "QualifiedTwice",
             FaultKind::ExpansionPast => "ExpansionPast",
             FaultKind::QualifierCircle => "QualifierCircle",
+            FaultKind::ClassesPast => "ClassesPast",
+            FaultKind::MembersPast => "MembersPast",
             FaultKind::NotYet => "NotYet",
         }
     }

@@ -144,6 +144,8 @@ fn numbers_and_words(rt: HostRuntime) {
         (FaultKind::QualifiedTwice, 38, "QualifiedTwice"),
         (FaultKind::ExpansionPast, 40, "ExpansionPast"),
         (FaultKind::QualifierCircle, 41, "QualifierCircle"),
+        (FaultKind::ClassesPast, 42, "ClassesPast"),
+        (FaultKind::MembersPast, 43, "MembersPast"),
         (FaultKind::NotYet, 50, "NotYet"),
     ];
     for (kind, number, word) in cases {

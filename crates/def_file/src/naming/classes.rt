@@ -18,7 +18,7 @@ fn classes_of(alloc: Global, conditions: &[TakenCondition]) -> Result<Vec<(u32, 
     let mut classes = Vec::new(alloc);
     for condition in conditions {
         if let Choice::InClass(class) = &condition.choice {
-            classes.push((condition.variable, class.number()))?;
+            classes.push((condition.variable, *class))?;
         }
     }
     Ok(classes)

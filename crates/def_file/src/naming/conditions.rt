@@ -1,33 +1,34 @@
 // What the variables of an equation may stand for.
-ghost use Rattle.std.specs.Prelude.{◌≡◌, ◌≤◌, ◌↔◌, ℕ, List, ◌∷◌, ◌++◌, [], length, map, IsTrue, IfOk, Contains, Some, slice_get};
+ghost use Rattle.std.specs.Prelude.{◌≡◌, ◌≤◌, ◌↔◌, List, ◌∷◌, ◌++◌, [], length, map, IsTrue, IfOk, Contains, Some, slice_get};
 ghost use Rattle.std.specs.List.{AllByRecursion};
 ghost use Rattle.eq_base.specs.declared.rules.Op.{Op as Operator};
-ghost use Rattle.eq_base.specs.declared.meeting.SymbolClass.{SymbolClass as Class};
-ghost use Rattle.symbol_table.specs.Table.{Table, Keeps, class_name};
+ghost use Rattle.symbol_table.specs.Table.{Table, Keeps};
 ghost use Rattle.term_lex.specs.Values.{IsTokenOf};
 ghost use Rattle.def_file.specs.Views.{condition, restriction};
 ghost use Rattle.def_file.specs.Names.{Qualified, ClassOf, token_bytes, restriction_places, condition_places};
 ghost use Rattle.def_file.specs.Naming.{ArePlaced, IsPlaced, IsTaking, knowing, qualified_names};
+ghost use Rattle.def_file.specs.Definitions.{NamesClass};
 ghost use Rattle.def_file.specs.Pairs.{AreRelated};
 ghost use Rattle.def_file.specs.Taking.{Lasts, TakesChoice, TakesCondition};
 ghost use Rattle.term_lex.specs.declared.syntax.Syntax.{Syntax as SyntaxValue};
 ghost use Rattle.def_file.specs.Notations.{notation_of};
 
 use super::faults::{bytes_of, refused};
+use super::listed::Listed;
 use super::operations::includes;
 use super::terms::take_terms;
 use crate::error::FileError;
 use crate::tree::{Condition, Restriction};
-use eq_base::{Pattern, SymbolClass};
+use eq_base::Pattern;
 use std::alloc::Global;
-use symbol_table::{Symbols, Variables, class_named};
+use symbol_table::{Symbols, class_named};
 use term_lex::{FaultKind, Syntax, Token};
 
 /// What a qualified variable may stand for.
 #[derive(Drop)]
 pub enum Choice {
-    /// The constants of a class.
-    InClass(SymbolClass),
+    /// The constants of the class with the number.
+    InClass(u8),
     /// The instances of patterns.
     OneOf(Vec<Pattern>),
 }
@@ -69,15 +70,16 @@ fn take_qualified(
     text: &[u8],
     before: &[Condition],
     name: Token,
-    variables: &Variables,
+    listed: &Listed,
 ) -> Result<u32, FileError>
     requires placed { IsPlaced text.now (Qualified (qualified_names before.now) name) }
     ensures taking { (syntax : SyntaxValue) (table : Table) (operations : List Operator)
-        → IsTaking (notation_of syntax) text.now (knowing table variables.now operations)
-        (Qualified (qualified_names before.now) name ∷ []) (knowing table variables.now operations) result }
-    ensures variable { IfOk result (λ x. slice_get variables.now x ≡ Some (token_bytes text.now name)) }
+        → IsTaking (notation_of syntax) text.now (knowing table listed.now operations)
+        (Qualified (qualified_names before.now) name ∷ []) (knowing table listed.now operations) result }
+    ensures variable { IfOk result
+        (λ x. slice_get listed.now.variables x ≡ Some (token_bytes text.now name)) }
 {
-    let Some(variable) = variables.find(bytes_of(text, name)) else {
+    let Some(variable) = listed.variables.find(bytes_of(text, name)) else {
         return Err(refused(FaultKind::QualifiedUnknown, name));
     };
     if is_qualified(text, before, name) {
@@ -86,22 +88,31 @@ fn take_qualified(
     Ok(variable)
 }
 
-/// The included class behind `is in`.
-fn take_class_of(text: &[u8], name: Token, symbols: &Symbols) -> Result<SymbolClass, FileError>
+/// The number of the class behind `is in`: of a symbol class that is included, or of a class of the file.
+fn take_class_of(
+    text: &[u8],
+    name: Token,
+    symbols: &Symbols,
+    listed: &Listed,
+) -> Result<u8, FileError>
     requires placed { IsPlaced text.now (ClassOf name) }
-    ensures taking { (syntax : SyntaxValue) (variables : List (List ℕ)) (operations : List Operator)
-        → IsTaking (notation_of syntax) text.now (knowing symbols.now variables operations)
+    ensures taking { (syntax : SyntaxValue) (operations : List Operator)
+        → IsTaking (notation_of syntax) text.now (knowing symbols.now listed.now operations)
         (ClassOf name ∷ [])
-        (knowing symbols.now variables operations) result }
-    ensures class { IfOk result (λ class. token_bytes text.now name ≡ class_name class) }
+        (knowing symbols.now listed.now operations) result }
+    ensures class { IfOk result (NamesClass listed.now.class_names (token_bytes text.now name)) }
 {
-    let Some(class) = class_named(bytes_of(text, name)) else {
-        return Err(refused(FaultKind::UnknownClass, name));
+    let bytes = bytes_of(text, name);
+    let Some(class) = class_named(bytes) else {
+        return match listed.class_names.number(bytes) {
+            Some(class) => Ok(class),
+            None => Err(refused(FaultKind::UnknownClass, name)),
+        };
     };
     if !includes(symbols, class) {
         return Err(refused(FaultKind::NotIncluded, name));
     }
-    Ok(class)
+    Ok(class.number())
 }
 
 /// What stands behind `is`.
@@ -111,24 +122,24 @@ fn take_restriction(
     syntax: Syntax,
     written: &Restriction,
     symbols: &mut Symbols,
-    variables: &Variables,
+    listed: &Listed,
 ) -> Result<Choice, FileError>
     requires placed { ArePlaced text.now (restriction_places (restriction written.now)) }
     ensures taking { (operations : List Operator)
-        → IsTaking (notation_of syntax) text.now (knowing symbols.old variables.now operations)
-        (restriction_places (restriction written.now)) (knowing symbols.new variables.now operations) result }
+        → IsTaking (notation_of syntax) text.now (knowing symbols.old listed.now operations)
+        (restriction_places (restriction written.now)) (knowing symbols.new listed.now operations) result }
     ensures choice { IfOk result (λ choice. Lasts
         (λ known table. TakesChoice (notation_of syntax) text.now known table
-        (restriction written.now) choice) symbols.new variables.now) }
+        (restriction written.now) choice) symbols.new listed.now) }
     ensures keeps { Keeps symbols.old symbols.new }
 {
     match written {
         Restriction::InClass(name) => {
-            let class = take_class_of(text, *name, symbols)?;
+            let class = take_class_of(text, *name, symbols, listed)?;
             Ok(Choice::InClass(class))
         }
         Restriction::OneOf(terms) => {
-            let patterns = take_terms(alloc, text, syntax, terms, symbols, variables)?;
+            let patterns = take_terms(alloc, text, syntax, terms, symbols, listed)?;
             Ok(Choice::OneOf(patterns))
         }
     }
@@ -142,30 +153,23 @@ fn take_condition(
     before: &[Condition],
     condition: &Condition,
     symbols: &mut Symbols,
-    variables: &Variables,
+    listed: &Listed,
 ) -> Result<TakenCondition, FileError>
     requires placed { ArePlaced text.now
         (Qualified (qualified_names before.now) condition.now.variable
         ∷ restriction_places (restriction condition.now.restriction)) }
     ensures taking { (operations : List Operator)
-        → IsTaking (notation_of syntax) text.now (knowing symbols.old variables.now operations)
+        → IsTaking (notation_of syntax) text.now (knowing symbols.old listed.now operations)
         (Qualified (qualified_names before.now) condition.now.variable
         ∷ restriction_places (restriction condition.now.restriction))
-        (knowing symbols.new variables.now operations) result }
+        (knowing symbols.new listed.now operations) result }
     ensures condition { IfOk result
         (λ taken. Lasts (λ known table. TakesCondition (notation_of syntax) text.now known table
-        condition.now.variable (restriction condition.now.restriction) taken) symbols.new variables.now) }
+        condition.now.variable (restriction condition.now.restriction) taken) symbols.new listed.now) }
     ensures keeps { Keeps symbols.old symbols.new }
 {
-    let variable = take_qualified(text, before, condition.variable, variables)?;
-    let choice = take_restriction(
-        alloc,
-        text,
-        syntax,
-        &condition.restriction,
-        symbols,
-        variables,
-    )?;
+    let variable = take_qualified(text, before, condition.variable, listed)?;
+    let choice = take_restriction(alloc, text, syntax, &condition.restriction, symbols, listed)?;
     Ok(TakenCondition {
         variable,
         choice,
@@ -180,17 +184,17 @@ pub fn take_conditions(
     syntax: Syntax,
     conditions: &[Condition],
     symbols: &mut Symbols,
-    variables: &Variables,
+    listed: &Listed,
 ) -> Result<Vec<TakenCondition>, FileError>
     requires placed { ArePlaced text.now (condition_places [] (map condition conditions.now)) }
     ensures taking { (operations : List Operator)
-        → IsTaking (notation_of syntax) text.now (knowing symbols.old variables.now operations)
+        → IsTaking (notation_of syntax) text.now (knowing symbols.old listed.now operations)
         (condition_places [] (map condition conditions.now))
-        (knowing symbols.new variables.now operations) result }
+        (knowing symbols.new listed.now operations) result }
     ensures conditions { IfOk result
         (λ taken. Lasts (λ known table. AreRelated
         (λ c t. TakesCondition (notation_of syntax) text.now known table c.variable c.restriction t)
-        (map condition conditions.now) taken.items) symbols.new variables.now) }
+        (map condition conditions.now) taken.items) symbols.new listed.now) }
     ensures keeps { Keeps symbols.old symbols.new }
 {
     let mut taken = Vec::new(alloc);
@@ -202,7 +206,7 @@ pub fn take_conditions(
             &conditions[..i],
             next,
             symbols,
-            variables,
+            listed,
         )?;
         taken.push(condition)?;
     }

@@ -13,11 +13,13 @@ ghost use Rattle.def_file.specs.AsRead.{numbered_read, AreLiveItems};
 ghost use Rattle.def_file.specs.Definitions.{MeanItems};
 ghost use Rattle.def_file.specs.Taking.{Lasts, TakesEquation, TakesItem, class_item, items_behind, equations_behind, fault_behind};
 ghost use Rattle.term_lex.specs.declared.syntax.Syntax.{Syntax as SyntaxValue};
+ghost use Rattle.def_file.specs.declared.naming.listed.Listed.{Listed as ListedNames};
 ghost use Rattle.def_file.specs.Notations.{notation_of};
 
 use super::classes::written;
 use super::conditions::{TakenCondition, take_conditions};
 use super::limits::equation_fault;
+use super::listed::Listed;
 use super::operations::take_operation;
 use super::terms::take_term;
 use crate::definitions::{Item, Numbered, Written};
@@ -25,7 +27,7 @@ use crate::error::FileError;
 use crate::tree::{EquationItem, Sides};
 use eq_base::{NoMemory, Op, Pattern};
 use std::alloc::Global;
-use symbol_table::{Symbols, Variables};
+use symbol_table::Symbols;
 use term_lex::{Fault, Syntax, Token};
 
 /// An equation whose names are known.
@@ -55,27 +57,20 @@ fn take_equation(
     syntax: Syntax,
     equation: &Sides,
     symbols: &mut Symbols,
-    variables: &Variables,
+    listed: &Listed,
 ) -> Result<TakenEquation, FileError>
     requires placed { ArePlaced text.now (equation_places (sides equation.now)) }
     ensures taking { (operations : List Operator)
-        → IsTaking (notation_of syntax) text.now (knowing symbols.old variables.now operations)
-        (equation_places (sides equation.now)) (knowing symbols.new variables.now operations) result }
+        → IsTaking (notation_of syntax) text.now (knowing symbols.old listed.now operations)
+        (equation_places (sides equation.now)) (knowing symbols.new listed.now operations) result }
     ensures equation { IfOk result (λ taken. Lasts
         (λ known table. TakesEquation (notation_of syntax) text.now known table
-        (sides equation.now) taken) symbols.new variables.now) }
+        (sides equation.now) taken) symbols.new listed.now) }
     ensures keeps { Keeps symbols.old symbols.new }
 {
-    let left = take_term(alloc, text, syntax, equation.left, symbols, variables)?;
-    let right = take_term(alloc, text, syntax, equation.right, symbols, variables)?;
-    let conditions = take_conditions(
-        alloc,
-        text,
-        syntax,
-        &equation.conditions,
-        symbols,
-        variables,
-    )?;
+    let left = take_term(alloc, text, syntax, equation.left, symbols, listed)?;
+    let right = take_term(alloc, text, syntax, equation.right, symbols, listed)?;
+    let conditions = take_conditions(alloc, text, syntax, &equation.conditions, symbols, listed)?;
     Ok(TakenEquation {
         left,
         right,
@@ -92,10 +87,10 @@ fn take_operations(
     operations: &mut Vec<Op>,
 ) -> Result<Vec<(Op, usize)>, FileError>
     requires placed { ArePlaced text.now (map Operation names.now) }
-    ensures taking { (syntax : SyntaxValue) (variables : List (List ℕ))
-        → IsTaking (notation_of syntax) text.now (knowing symbols.now variables operations.old.items)
+    ensures taking { (syntax : SyntaxValue) (listed : ListedNames)
+        → IsTaking (notation_of syntax) text.now (knowing symbols.now listed operations.old.items)
         (map Operation names.now)
-        (knowing symbols.now variables operations.new.items) result }
+        (knowing symbols.now listed operations.new.items) result }
     ensures operations { IfOk result
         (λ taken. AreRelated (λ name o. (token_bytes text.now name ≡ operation_name o.0)
         × (o.1 ≡ name.from)) names.now taken.items) }
@@ -116,22 +111,22 @@ fn take_item(
     item: &EquationItem,
     before: usize,
     symbols: &mut Symbols,
-    variables: &Variables,
+    listed: &Listed,
     operations: &mut Vec<Op>,
 ) -> Result<TakenItem, FileError>
     requires placed { ArePlaced text.now (item_places (equation_item item.now)) }
     ensures taking { IsTaking (notation_of syntax) text.now
-        (knowing symbols.old variables.now operations.old.items)
+        (knowing symbols.old listed.now operations.old.items)
         (item_places (equation_item item.now))
-        (knowing symbols.new variables.now operations.new.items) result }
+        (knowing symbols.new listed.now operations.new.items) result }
     ensures item { IfOk result (λ taken. Lasts
         (λ known table. TakesItem (notation_of syntax) text.now known table before
-        (equation_item item.now) taken) symbols.new variables.now) }
+        (equation_item item.now) taken) symbols.new listed.now) }
     ensures keeps { Keeps symbols.old symbols.new }
 {
     match item {
         EquationItem::Equates(equation) => {
-            let taken = take_equation(alloc, text, syntax, equation, symbols, variables)?;
+            let taken = take_equation(alloc, text, syntax, equation, symbols, listed)?;
             let fault = equation_fault(before, equation, &taken);
             let written = written(alloc, equation.left, taken)?;
             Ok(TakenItem::Equates(written, fault))
@@ -203,24 +198,24 @@ pub fn take_items(
     syntax: Syntax,
     items: &[EquationItem],
     symbols: &mut Symbols,
-    variables: &Variables,
+    listed: &Listed,
     operations: &mut Vec<Op>,
 ) -> Result<Taken, FileError>
     requires placed { ArePlaced text.now (flat_map item_places (map equation_item items.now)) }
     requires room { length items.now ≤ 2 ^ 24 }
     ensures taking { IsTaking (notation_of syntax) text.now
-        (knowing symbols.old variables.now operations.old.items)
+        (knowing symbols.old listed.now operations.old.items)
         (flat_map item_places (map equation_item items.now))
-        (knowing symbols.new variables.now operations.new.items) result }
+        (knowing symbols.new listed.now operations.new.items) result }
     ensures items { IfOk result (λ taken. Lasts
         (λ known table. MeanItems (notation_of syntax) text.now known 1 (map equation_item items.now)
-        (map (numbered_read table) taken.items.items)) symbols.new variables.now) }
+        (map (numbered_read table) taken.items.items)) symbols.new listed.now) }
     ensures live { IfOk result (λ taken. Lasts
-        (λ known table. AreLiveItems table taken.items.items) symbols.new variables.now) }
+        (λ known table. AreLiveItems table taken.items.items) symbols.new listed.now) }
     ensures limits { IfOk result (λ taken. Lasts
         (λ known table. AnswersLimits (notation_of syntax) text.now known
         (all_limits 0 (flat_map equation_of
-        (map equation_item items.now))) taken.fault) symbols.new variables.now) }
+        (map equation_item items.now))) taken.fault) symbols.new listed.now) }
     ensures keeps { Keeps symbols.old symbols.new }
 {
     let mut taken = Taken {
@@ -231,7 +226,7 @@ pub fn take_items(
     for (i, item) in items.iter().enumerate() {
         let before = taken.equations;
         let next = take_item(
-            alloc, text, syntax, item, before, symbols, variables, operations,
+            alloc, text, syntax, item, before, symbols, listed, operations,
         )?;
         taken.push(i as u32 + 1, next)?;
     }

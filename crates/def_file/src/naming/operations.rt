@@ -7,6 +7,7 @@ ghost use Rattle.def_file.specs.Operations.{operation_name, operation_symbol, op
 ghost use Rattle.def_file.specs.Names.{Operation, token_bytes};
 ghost use Rattle.def_file.specs.Naming.{IsPlaced, ArePlaced, IsTaking, knowing};
 ghost use Rattle.term_lex.specs.declared.syntax.Syntax.{Syntax as SyntaxValue};
+ghost use Rattle.def_file.specs.declared.naming.listed.Listed.{Listed as ListedNames};
 ghost use Rattle.def_file.specs.Notations.{notation_of};
 
 use super::faults::{bytes_of, refused};
@@ -146,10 +147,10 @@ pub fn take_operation(
     operations: &mut Vec<Op>,
 ) -> Result<Op, FileError>
     requires placed { IsPlaced text.now (Operation name) }
-    ensures taking { (syntax : SyntaxValue) (variables : List (List ℕ))
-        → IsTaking (notation_of syntax) text.now (knowing symbols.now variables operations.old.items)
+    ensures taking { (syntax : SyntaxValue) (listed : ListedNames)
+        → IsTaking (notation_of syntax) text.now (knowing symbols.now listed operations.old.items)
         (Operation name ∷ [])
-        (knowing symbols.now variables operations.new.items) result }
+        (knowing symbols.now listed operations.new.items) result }
     ensures named { IfOk result (λ op. token_bytes text.now name ≡ operation_name op) }
 {
     let Some(op) = operation_named(bytes_of(text, name)) else {

@@ -8,11 +8,12 @@ ghost use Rattle.def_file.specs.Pairs.{AreRelated};
 ghost use Rattle.def_file.specs.Taking.{Lasts, IsSideTaken};
 ghost use Rattle.def_file.specs.Notations.{notation_of};
 
+use super::listed::Listed;
 use crate::error::FileError;
 use crate::notations::read_pattern;
 use eq_base::Pattern;
 use std::alloc::Global;
-use symbol_table::{Symbols, Variables};
+use symbol_table::Symbols;
 use term_lex::Syntax;
 
 /// The pattern of the term that begins at the byte.
@@ -22,19 +23,19 @@ pub fn take_term(
     syntax: Syntax,
     byte: usize,
     symbols: &mut Symbols,
-    variables: &Variables,
+    listed: &Listed,
 ) -> Result<Pattern, FileError>
     requires placed { byte ≤ length text.now }
     ensures taking { (operations : List Operator)
-        → IsTaking (notation_of syntax) text.now (knowing symbols.old variables.now operations)
+        → IsTaking (notation_of syntax) text.now (knowing symbols.old listed.now operations)
         (Term byte ∷ [])
-        (knowing symbols.new variables.now operations) result }
+        (knowing symbols.new listed.now operations) result }
     ensures pattern { IfOk result (λ pattern. Lasts
         (λ known table. IsSideTaken (notation_of syntax) text.now known table byte pattern)
-        symbols.new variables.now) }
+        symbols.new listed.now) }
     ensures keeps { Keeps symbols.old symbols.new }
 {
-    let (pattern, _) = read_pattern(alloc, syntax, symbols, variables, text, byte)?;
+    let (pattern, _) = read_pattern(alloc, syntax, symbols, &listed.variables, text, byte)?;
     Ok(pattern)
 }
 
@@ -45,22 +46,22 @@ pub fn take_terms(
     syntax: Syntax,
     terms: &[usize],
     symbols: &mut Symbols,
-    variables: &Variables,
+    listed: &Listed,
 ) -> Result<Vec<Pattern>, FileError>
     requires placed { ArePlaced text.now (map Term terms.now) }
     ensures taking { (operations : List Operator)
-        → IsTaking (notation_of syntax) text.now (knowing symbols.old variables.now operations)
+        → IsTaking (notation_of syntax) text.now (knowing symbols.old listed.now operations)
         (map Term terms.now)
-        (knowing symbols.new variables.now operations) result }
+        (knowing symbols.new listed.now operations) result }
     ensures patterns { IfOk result (λ patterns. Lasts
         (λ known table. AreRelated (IsSideTaken (notation_of syntax) text.now known table)
         terms.now patterns.items)
-        symbols.new variables.now) }
+        symbols.new listed.now) }
     ensures keeps { Keeps symbols.old symbols.new }
 {
     let mut patterns = Vec::new(alloc);
     for byte in terms {
-        let pattern = take_term(alloc, text, syntax, *byte, symbols, variables)?;
+        let pattern = take_term(alloc, text, syntax, *byte, symbols, listed)?;
         patterns.push(pattern)?;
     }
     Ok(patterns)

@@ -5,7 +5,7 @@ use Rattle.std.specs.List.{flat_map}
 use Rattle.symbol_table.specs.Table.{Table}
 use Rattle.def_file.specs.Errors.{IfRefused}
 use Rattle.def_file.specs.Views.{symbol_item, equation_item, file}
-use Rattle.def_file.specs.Names.{Variable, nothing_known, symbol_places, item_places, TakesAll, RefusesFirst}
+use Rattle.def_file.specs.Names.{nothing_known, symbol_places, item_places, TakesAll, RefusesFirst}
 use Rattle.def_file.specs.Naming.{ArePlaced, knowing, only_symbols, no_operations}
 use Rattle.symbol_table.proofs.Keeping.{keeps_refl}
 use Rattle.def_file.specs.Sides.{equation_of, all_limits, AnswersLimits}
@@ -13,7 +13,7 @@ use Rattle.def_file.specs.AsRead.{numbered_read}
 use Rattle.def_file.specs.Definitions.{MeanItems}
 use Rattle.def_file.proofs.Placed.{file_placed}
 use Rattle.def_file.proofs.Few.{file_few}
-use Rattle.def_file.proofs.FileNames.{naming_refused, symbols_refused, variables_refused, items_refused, all_named}
+use Rattle.def_file.proofs.FileNames.{naming_refused, symbols_refused, listed_refused, items_refused, all_named}
 use Rattle.def_file.specs.Notations.{notation_of}
 use Rattle.def_file.proofs.Lawful.{lawful_of}
 use Rattle.def_file.proofs.naming.take_names.Goals as goal
@@ -35,50 +35,45 @@ returns-in_err-take_symbols-clause-naming c =
     let refused = subst (λ xs. IfRefused (RefusesFirst (notation_of c.args.syntax) c.args.text.now nothing_known (flat_map symbol_places (map symbol_item xs))) c.in_err-take_symbols.field-0.0) c.deref.ensures.value (subst (λ t. IfRefused (RefusesFirst (notation_of c.args.syntax) c.args.text.now (only_symbols t) (flat_map symbol_places (map symbol_item c.deref.result.now))) c.in_err-take_symbols.field-0.0) c.new-symbols.ensures (c.in_err-take_symbols.ensures c.args.syntax)) in
     naming_refused (notation_of c.args.syntax) c.args.text.now (file c.args.written.now) c.from_residual.result c.in_err-take_symbols.field-0.0 same (symbols_refused (notation_of c.args.syntax) c.args.text.now (file c.args.written.now) c.in_err-take_symbols.field-0.0 refused)
 
-pub take_variables-requires-clause-placed : goal.take_variables-requires-clause-placed
-take_variables-requires-clause-placed c = subst (λ xs. ArePlaced c.args.text.now (map Variable xs)) (sym c.deref-2.ensures.value) (file_placed (notation_of c.args.syntax) c.args.text.now (file c.args.written.now) c.requires.reads.lexemes c.requires.reads.end c.requires.reads.scanned c.requires.reads.spelled).variables
+pub take_listed-requires-clause-placed : goal.take_listed-requires-clause-placed
+take_listed-requires-clause-placed c = (file_placed (notation_of c.args.syntax) c.args.text.now (file c.args.written.now) c.requires.reads.lexemes c.requires.reads.end c.requires.reads.scanned c.requires.reads.spelled).listed
 
-pub take_variables-requires-clause-room : goal.take_variables-requires-clause-room
-take_variables-requires-clause-room c =
-    let few = (file_few c.args.text.now (lawful_of c.args.syntax) (file c.args.written.now) c.requires.reads.lexemes c.requires.reads.end c.requires.reads.scanned c.requires.reads.spelled).variables in
-    let same = ap length c.deref-2.ensures.value in
-    let none = ap length c.new-variables.ensures in
-    omega (arith, few, same, none, c.requires.short)
+pub take_listed-requires-clause-few : goal.take_listed-requires-clause-few
+take_listed-requires-clause-few c = (file_few c.args.text.now (lawful_of c.args.syntax) (file c.args.written.now) c.requires.reads.lexemes c.requires.reads.end c.requires.reads.scanned c.requires.reads.spelled).variables
 
-pub returns-in_err-take_variables-clause-naming : goal.returns-in_err-take_variables-clause-naming
-returns-in_err-take_variables-clause-naming c =
-    let p = err_from_is_err_and c.from_residual-in_err-take_variables.result c.from_residual-in_err-take_variables.ensures.1 in
-    let same : c.from_residual-in_err-take_variables.result ≡ Err c.in_err-take_variables.field-0.0 = cc (p.1, p.2) in
-    let refused = subst (λ xs. IfRefused (RefusesFirst (notation_of c.args.syntax) c.args.text.now (only_symbols c.take_symbols.new.symbols) (map Variable xs)) c.in_err-take_variables.field-0.0) c.deref-2.ensures.value (subst (λ vs. IfRefused (RefusesFirst (notation_of c.args.syntax) c.args.text.now (no_operations c.take_symbols.new.symbols vs) (map Variable c.deref-2.result.now)) c.in_err-take_variables.field-0.0) c.new-variables.ensures (c.in_err-take_variables.ensures c.args.syntax)) in
-    naming_refused (notation_of c.args.syntax) c.args.text.now (file c.args.written.now) c.from_residual-in_err-take_variables.result c.in_err-take_variables.field-0.0 same (variables_refused (notation_of c.args.syntax) c.args.text.now (file c.args.written.now) c.take_symbols.new.symbols (subst (λ xs. TakesAll (notation_of c.args.syntax) c.args.text.now nothing_known (flat_map symbol_places (map symbol_item xs)) (only_symbols c.take_symbols.new.symbols)) c.deref.ensures.value (subst (λ t. TakesAll (notation_of c.args.syntax) c.args.text.now (only_symbols t) (flat_map symbol_places (map symbol_item c.deref.result.now)) (only_symbols c.take_symbols.new.symbols)) c.new-symbols.ensures (c.in_ok-take_symbols.ensures c.args.syntax))) c.in_err-take_variables.field-0.0 refused)
+pub returns-in_err-listed-clause-naming : goal.returns-in_err-listed-clause-naming
+returns-in_err-listed-clause-naming c =
+    let p = err_from_is_err_and c.from_residual-in_err-listed.result c.from_residual-in_err-listed.ensures.1 in
+    let same : c.from_residual-in_err-listed.result ≡ Err c.in_err-listed.field-0.0 = cc (p.1, p.2) in
+    naming_refused (notation_of c.args.syntax) c.args.text.now (file c.args.written.now) c.from_residual-in_err-listed.result c.in_err-listed.field-0.0 same (listed_refused (notation_of c.args.syntax) c.args.text.now (file c.args.written.now) c.take_symbols.new.symbols (subst (λ xs. TakesAll (notation_of c.args.syntax) c.args.text.now nothing_known (flat_map symbol_places (map symbol_item xs)) (only_symbols c.take_symbols.new.symbols)) c.deref.ensures.value (subst (λ t. TakesAll (notation_of c.args.syntax) c.args.text.now (only_symbols t) (flat_map symbol_places (map symbol_item c.deref.result.now)) (only_symbols c.take_symbols.new.symbols)) c.new-symbols.ensures (c.in_ok-take_symbols.ensures c.args.syntax))) c.in_err-listed.field-0.0 (c.in_err-listed.ensures.refused c.args.syntax))
 
 pub take_items-requires-clause-placed : goal.take_items-requires-clause-placed
-take_items-requires-clause-placed c = subst (λ xs. ArePlaced c.args.text.now (flat_map item_places (map equation_item xs))) (sym c.deref-3.ensures.value) (file_placed (notation_of c.args.syntax) c.args.text.now (file c.args.written.now) c.requires.reads.lexemes c.requires.reads.end c.requires.reads.scanned c.requires.reads.spelled).items
+take_items-requires-clause-placed c = subst (λ xs. ArePlaced c.args.text.now (flat_map item_places (map equation_item xs))) (sym c.deref-2.ensures.value) (file_placed (notation_of c.args.syntax) c.args.text.now (file c.args.written.now) c.requires.reads.lexemes c.requires.reads.end c.requires.reads.scanned c.requires.reads.spelled).items
 
 pub returns-in_err-taken-clause-naming : goal.returns-in_err-taken-clause-naming
 returns-in_err-taken-clause-naming c =
     let p = err_from_is_err_and c.from_residual-in_err-taken.result c.from_residual-in_err-taken.ensures.1 in
     let same : c.from_residual-in_err-taken.result ≡ Err c.in_err-taken.field-0.0 = cc (p.1, p.2) in
-    let refused = subst (λ xs. IfRefused (RefusesFirst (notation_of c.args.syntax) c.args.text.now (no_operations c.take_symbols.new.symbols c.take_variables.new.variables) (flat_map item_places (map equation_item xs))) c.in_err-taken.field-0.0) c.deref-3.ensures.value (subst (λ ops. IfRefused (RefusesFirst (notation_of c.args.syntax) c.args.text.now (knowing c.take_symbols.new.symbols c.take_variables.new.variables ops) (flat_map item_places (map equation_item c.deref-3.result.now))) c.in_err-taken.field-0.0) c.new-operations.ensures.items c.in_err-taken.ensures.taking) in
-    naming_refused (notation_of c.args.syntax) c.args.text.now (file c.args.written.now) c.from_residual-in_err-taken.result c.in_err-taken.field-0.0 same (items_refused (notation_of c.args.syntax) c.args.text.now (file c.args.written.now) c.take_symbols.new.symbols (subst (λ xs. TakesAll (notation_of c.args.syntax) c.args.text.now nothing_known (flat_map symbol_places (map symbol_item xs)) (only_symbols c.take_symbols.new.symbols)) c.deref.ensures.value (subst (λ t. TakesAll (notation_of c.args.syntax) c.args.text.now (only_symbols t) (flat_map symbol_places (map symbol_item c.deref.result.now)) (only_symbols c.take_symbols.new.symbols)) c.new-symbols.ensures (c.in_ok-take_symbols.ensures c.args.syntax))) c.take_variables.new.variables (subst (λ xs. TakesAll (notation_of c.args.syntax) c.args.text.now (only_symbols c.take_symbols.new.symbols) (map Variable xs) (no_operations c.take_symbols.new.symbols c.take_variables.new.variables)) c.deref-2.ensures.value (subst (λ vs. TakesAll (notation_of c.args.syntax) c.args.text.now (no_operations c.take_symbols.new.symbols vs) (map Variable c.deref-2.result.now) (no_operations c.take_symbols.new.symbols c.take_variables.new.variables)) c.new-variables.ensures (c.in_ok-take_variables.ensures c.args.syntax))) c.in_err-taken.field-0.0 refused)
+    let refused = subst (λ xs. IfRefused (RefusesFirst (notation_of c.args.syntax) c.args.text.now (no_operations c.take_symbols.new.symbols c.in_ok-listed.listed) (flat_map item_places (map equation_item xs))) c.in_err-taken.field-0.0) c.deref-2.ensures.value (subst (λ ops. IfRefused (RefusesFirst (notation_of c.args.syntax) c.args.text.now (knowing c.take_symbols.new.symbols c.in_ok-listed.listed ops) (flat_map item_places (map equation_item c.deref-2.result.now))) c.in_err-taken.field-0.0) c.new-operations.ensures.items c.in_err-taken.ensures.taking) in
+    naming_refused (notation_of c.args.syntax) c.args.text.now (file c.args.written.now) c.from_residual-in_err-taken.result c.in_err-taken.field-0.0 same (items_refused (notation_of c.args.syntax) c.args.text.now (file c.args.written.now) c.take_symbols.new.symbols (subst (λ xs. TakesAll (notation_of c.args.syntax) c.args.text.now nothing_known (flat_map symbol_places (map symbol_item xs)) (only_symbols c.take_symbols.new.symbols)) c.deref.ensures.value (subst (λ t. TakesAll (notation_of c.args.syntax) c.args.text.now (only_symbols t) (flat_map symbol_places (map symbol_item c.deref.result.now)) (only_symbols c.take_symbols.new.symbols)) c.new-symbols.ensures (c.in_ok-take_symbols.ensures c.args.syntax))) c.in_ok-listed.listed (c.in_ok-listed.ensures.taken c.args.syntax) c.in_err-taken.field-0.0 refused)
 
 pub returns-clause-naming : goal.returns-clause-naming
 returns-clause-naming c =
-    let known = knowing c.take_items.new.symbols c.take_variables.new.variables c.take_items.new.operations.items in
-    let items = subst (λ xs. TakesAll (notation_of c.args.syntax) c.args.text.now (no_operations c.take_symbols.new.symbols c.take_variables.new.variables) (flat_map item_places (map equation_item xs)) known) c.deref-3.ensures.value (subst (λ ops. TakesAll (notation_of c.args.syntax) c.args.text.now (knowing c.take_symbols.new.symbols c.take_variables.new.variables ops) (flat_map item_places (map equation_item c.deref-3.result.now)) known) c.new-operations.ensures.items c.in_ok-taken.ensures.taking) in
-    all_named (notation_of c.args.syntax) c.args.text.now (file c.args.written.now) c.take_symbols.new.symbols (subst (λ xs. TakesAll (notation_of c.args.syntax) c.args.text.now nothing_known (flat_map symbol_places (map symbol_item xs)) (only_symbols c.take_symbols.new.symbols)) c.deref.ensures.value (subst (λ t. TakesAll (notation_of c.args.syntax) c.args.text.now (only_symbols t) (flat_map symbol_places (map symbol_item c.deref.result.now)) (only_symbols c.take_symbols.new.symbols)) c.new-symbols.ensures (c.in_ok-take_symbols.ensures c.args.syntax))) c.take_variables.new.variables (subst (λ xs. TakesAll (notation_of c.args.syntax) c.args.text.now (only_symbols c.take_symbols.new.symbols) (map Variable xs) (no_operations c.take_symbols.new.symbols c.take_variables.new.variables)) c.deref-2.ensures.value (subst (λ vs. TakesAll (notation_of c.args.syntax) c.args.text.now (no_operations c.take_symbols.new.symbols vs) (map Variable c.deref-2.result.now) (no_operations c.take_symbols.new.symbols c.take_variables.new.variables)) c.new-variables.ensures (c.in_ok-take_variables.ensures c.args.syntax))) known items
+    let known = knowing c.take_items.new.symbols c.in_ok-listed.listed c.take_items.new.operations.items in
+    let items = subst (λ xs. TakesAll (notation_of c.args.syntax) c.args.text.now (no_operations c.take_symbols.new.symbols c.in_ok-listed.listed) (flat_map item_places (map equation_item xs)) known) c.deref-2.ensures.value (subst (λ ops. TakesAll (notation_of c.args.syntax) c.args.text.now (knowing c.take_symbols.new.symbols c.in_ok-listed.listed ops) (flat_map item_places (map equation_item c.deref-2.result.now)) known) c.new-operations.ensures.items c.in_ok-taken.ensures.taking) in
+    all_named (notation_of c.args.syntax) c.args.text.now (file c.args.written.now) c.take_symbols.new.symbols (subst (λ xs. TakesAll (notation_of c.args.syntax) c.args.text.now nothing_known (flat_map symbol_places (map symbol_item xs)) (only_symbols c.take_symbols.new.symbols)) c.deref.ensures.value (subst (λ t. TakesAll (notation_of c.args.syntax) c.args.text.now (only_symbols t) (flat_map symbol_places (map symbol_item c.deref.result.now)) (only_symbols c.take_symbols.new.symbols)) c.new-symbols.ensures (c.in_ok-take_symbols.ensures c.args.syntax))) c.in_ok-listed.listed (c.in_ok-listed.ensures.taken c.args.syntax) known items
 
 pub take_items-requires-clause-room : goal.take_items-requires-clause-room
 take_items-requires-clause-room c =
     let few : length c.args.written.now.items.items ≤ length c.args.text.now = simp length-map at (file_few c.args.text.now (lawful_of c.args.syntax) (file c.args.written.now) c.requires.reads.lexemes c.requires.reads.end c.requires.reads.scanned c.requires.reads.spelled).items in
-    let same = ap length c.deref-3.ensures.value in
+    let same = ap length c.deref-2.ensures.value in
     omega (arith, few, same, c.requires.short)
 
 pub returns-clause-items : goal.returns-clause-items
-returns-clause-items c = subst (λ xs. MeanItems (notation_of c.args.syntax) c.args.text.now (knowing c.take_items.new.symbols c.take_variables.new.variables c.take_items.new.operations.items) 1 (map equation_item xs) (map (numbered_read c.take_items.new.symbols) c.in_ok-taken.taken.items.items)) c.deref-3.ensures.value (c.in_ok-taken.ensures.items c.take_items.new.symbols c.take_items.new.operations.items (keeps_refl _))
+returns-clause-items c = subst (λ xs. MeanItems (notation_of c.args.syntax) c.args.text.now (knowing c.take_items.new.symbols c.in_ok-listed.listed c.take_items.new.operations.items) 1 (map equation_item xs) (map (numbered_read c.take_items.new.symbols) c.in_ok-taken.taken.items.items)) c.deref-2.ensures.value (c.in_ok-taken.ensures.items c.take_items.new.symbols c.take_items.new.operations.items (keeps_refl _))
 
 pub returns-clause-limits : goal.returns-clause-limits
-returns-clause-limits c = subst (λ xs. AnswersLimits (notation_of c.args.syntax) c.args.text.now (knowing c.take_items.new.symbols c.take_variables.new.variables c.take_items.new.operations.items) (all_limits 0 (flat_map equation_of (map equation_item xs))) c.in_ok-taken.taken.fault) c.deref-3.ensures.value (c.in_ok-taken.ensures.limits c.take_items.new.symbols c.take_items.new.operations.items (keeps_refl _))
+returns-clause-limits c = subst (λ xs. AnswersLimits (notation_of c.args.syntax) c.args.text.now (knowing c.take_items.new.symbols c.in_ok-listed.listed c.take_items.new.operations.items) (all_limits 0 (flat_map equation_of (map equation_item xs))) c.in_ok-taken.taken.fault) c.deref-2.ensures.value (c.in_ok-taken.ensures.limits c.take_items.new.symbols c.take_items.new.operations.items (keeps_refl _))
 
 pub returns-clause-live : goal.returns-clause-live
 returns-clause-live c = c.in_ok-taken.ensures.live c.take_items.new.symbols c.take_items.new.operations.items (keeps_refl _)

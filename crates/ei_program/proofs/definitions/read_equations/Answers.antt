@@ -1,7 +1,8 @@
-use Rattle.std.proofs.Common.{◌≡◌, ℕ, List, inr, refl, sym, subst}
+use Rattle.std.proofs.Common.{◌≡◌, ℕ, List, inr, refl, sym, ap, subst}
 use Rattle.std.specs.Prelude.{IfErr, Result, Err}
 use Rattle.std.proofs.lemmas.Result.{err_from_is_err_and}
 use Rattle.term_lex.specs.declared.syntax.Syntax.{Syntax}
+use Rattle.symbol_table.specs.Reading.{read_classes}
 use Rattle.def_file.specs.declared.error.FileError.{FileError}
 use Rattle.def_file.specs.declared.error.FileError.TheVariants.{Refused, NoMemory}
 use Rattle.def_file.specs.AsRead.{ReadDefinitions, definitions_read}
@@ -31,6 +32,19 @@ returns-in_err-rules-clause-refused c =
     let same : c.from_residual-in_err-rules.result ≡ Err c.in_err-rules.field-0.0 = cc (p.1, p.2) in
     subst (λ (r : Result Equations FileError). IfErr r (IfRefused (RefusesFile c.args.syntax c.args.text.now))) (sym same)
     (unexpanded c.args.syntax c.args.text.now (definitions_read c.in_ok-definitions.definitions) c.in_ok-definitions.ensures.answer c.in_err-rules.field-0.0 c.in_err-rules.ensures.answer)
+
+pub returns-clause-ok : goal.returns-clause-ok
+returns-clause-ok c =
+    let d = c.in_ok-definitions.definitions in
+    record {
+      read = definitions_read d;
+      says = c.in_ok-definitions.ensures.answer;
+      expansion = c.in_ok-rules.ensures.answer;
+      notation = refl;
+      names = refl;
+      classes = ap (read_classes d.symbols) c.in_ok-rules.ensures.classes;
+      variables = refl;
+    }
 
 pub returns-clause-usable : goal.returns-clause-usable
 returns-clause-usable c =

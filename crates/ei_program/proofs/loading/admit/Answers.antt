@@ -10,7 +10,7 @@ pub admit-requires : goal.admit-requires
 admit-requires c =
     let e = c.args.equations in
     let defines = c.requires.defined.1 in
-    file_well_formed (notation_of e.syntax) (lawful_of e.syntax) c.requires.defined.0 defines.read defines.says e.symbols e.rules defines.expansion
+    file_well_formed (notation_of e.syntax) (lawful_of e.syntax) c.requires.defined.0 defines.read defines.says e.symbols e.rules defines.expansion defines.classes
 
 pub returns-in-Ok-clause-admitted : goal.returns-in-Ok-clause-admitted
 returns-in-Ok-clause-admitted c =

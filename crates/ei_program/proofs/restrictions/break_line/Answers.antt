@@ -16,5 +16,5 @@ line_by-requires c =
 pub returns : goal.returns
 returns c =
     let found = c.args.found in
-    let same = ap (λ o. line_by rule_of origin_of found o (slice_get c.args.rules.now found.second)) c.equation-one.ensures ∙ ap (λ o. line_by rule_of origin_of found (Some c.equation-one.result.now) o) c.equation-other.ensures in
+    let same = ap (λ o. line_by rule_of origin_of found o (slice_get c.args.rules.now.equations found.second)) c.equation-one.ensures ∙ ap (λ o. line_by rule_of origin_of found (Some c.equation-one.result.now) o) c.equation-other.ensures in
     subst (λ (bytes : List ℕ). IfOk c.line_by.result (λ line. string_bytes line ≡ bytes)) (sym same) c.line_by.ensures

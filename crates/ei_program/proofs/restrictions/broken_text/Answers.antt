@@ -12,7 +12,7 @@ break_line-requires c = break_in_list c.args.rules.now c.args.breaks.now c.get.r
 
 pub loop-i-preserved : goal.loop-i-preserved
 loop-i-preserved c =
-    let es = c.args.rules.now in
+    let es = c.args.rules.now.equations in
     let bs = c.args.breaks.now in
     let i = c.loop-i.i in
     let line = string_bytes c.in_ok-line.line in
@@ -27,7 +27,7 @@ returns-then-more-eq0 c =
     let all : c.loop-i.i ≡ length c.args.breaks.now = omega (arith, c.loop-i-test.false, c.loop-i.auto.i-end, c.if-more-eq0.true, c.min-told.ensures, c.len-count.ensures) in
     let few : length c.args.breaks.now ≤ 50 = omega (arith, c.if-more-eq0.true, c.min-told.ensures, c.len-count.ensures) in
     let header : string_bytes c.in_ok-text.text ≡ codes "ei: restrictions broken: " ++ decimal (length c.args.breaks.now) ++ codes "\n" = search rules in
-    told_whole c.args.rules.now c.args.breaks.now (string_bytes c.loop-i.text) (string_bytes c.in_ok-text.text) c.loop-i.i header c.loop-i.invariant all few
+    told_whole c.args.rules.now.equations c.args.breaks.now (string_bytes c.loop-i.text) (string_bytes c.in_ok-text.text) c.loop-i.i header c.loop-i.invariant all few
 
 pub returns : goal.returns
 returns c =
@@ -36,4 +36,4 @@ returns c =
     let cut : c.loop-i.i ≡ 50 = omega (arith, c.loop-i-test.false, c.loop-i.auto.i-end, c.if-more-eq0.false, c.min-told.ensures, c.len-count.ensures) in
     let rest : c.len-count.result - c.min-told.result ≡ length bs - 50 = omega (arith, c.if-more-eq0.false, c.min-told.ensures, c.len-count.ensures) in
     let some : 0 < c.len-count.result - c.min-told.result = omega (arith, c.if-more-eq0.false) in
-    told_in_part c.args.rules.now bs (string_bytes c.loop-i.text) (string_bytes c.in_ok-text.text) (string_bytes c.write.new.self) c.loop-i.i (c.len-count.result - c.min-told.result) header c.loop-i.invariant cut rest some (search rules)
+    told_in_part c.args.rules.now.equations bs (string_bytes c.loop-i.text) (string_bytes c.in_ok-text.text) (string_bytes c.write.new.self) c.loop-i.i (c.len-count.result - c.min-told.result) header c.loop-i.invariant cut rest some (search rules)

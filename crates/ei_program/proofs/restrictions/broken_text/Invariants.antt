@@ -5,4 +5,4 @@ use Rattle.ei_program.specs.Restrictions.{origin_of, break_line}
 use Rattle.ei_program.proofs.restrictions.broken_text.Given as goal
 
 abbrev pub invariant-loop-i : goal.invariant-loop-i
-invariant-loop-i l = string_bytes l.text ≡ string_bytes l.initial.text ++ flat_map (break_line rule_of origin_of l.rules) (take l.i l.breaks)
+invariant-loop-i l = string_bytes l.text ≡ string_bytes l.initial.text ++ flat_map (break_line rule_of origin_of l.rules.equations) (take l.i l.breaks)

@@ -5,7 +5,7 @@ use Rattle.orthogonal_laws.proofs.laws.only_normal_form.Goals as goal
 
 pub returns : goal.returns
 returns c = record {
-  found = λ table es regular. let lawful = read_lawful table es regular in laws.run_found (read_system table es) lawful.well_formed lawful.orthogonal;
-  one_run = λ table es regular. let lawful = read_lawful table es regular in laws.one_run (read_system table es) lawful.well_formed lawful.orthogonal;
-  one_end = λ table es regular. let lawful = read_lawful table es regular in laws.one_end (read_system table es) lawful.well_formed lawful.orthogonal;
+  found = λ table rules regular. let lawful = read_lawful table rules regular in laws.run_found (read_system table rules) lawful.well_formed lawful.orthogonal;
+  one_run = λ table rules regular. let lawful = read_lawful table rules regular in laws.one_run (read_system table rules) lawful.well_formed lawful.orthogonal;
+  one_end = λ table rules regular. let lawful = read_lawful table rules regular in laws.one_end (read_system table rules) lawful.well_formed lawful.orthogonal;
 }

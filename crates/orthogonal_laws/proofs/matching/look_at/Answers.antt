@@ -1,5 +1,8 @@
-use Rattle.std.proofs.Common.{None, arith, subst, ◌≡◌, ◌-◌}
+use Rattle.std.proofs.Common.{None, arith, subst, ◌≡◌, ◌≤◌, ◌-◌}
 use Rattle.eq_base.specs.Tree.{nth_subtree}
+use Rattle.eq_base.specs.Pattern.{IsInstanceOf}
+use Rattle.eq_base.specs.Meeting.{in_class_of}
+use Rattle.orthogonal_laws.specs.Matching.{FailsAt}
 use Rattle.orthogonal_laws.proofs.Failures.{failing_not_met, fails_none, fails_more, fails_all, FailsSoFar}
 use Rattle.orthogonal_laws.proofs.RegularLists.{left_linear}
 use Rattle.orthogonal_laws.proofs.matching.look_at.Goals as goal
@@ -16,13 +19,13 @@ pub returns-in-None : goal.returns-in-None
 returns-in-None c = record {
   equation = c.equation.result.now;
   listed = c.equation.ensures;
-  met = c.in-None.ensures;
-  first = λ k e lt there i. let f = c.loop-equation.invariant.failures.each k e lt there in failing_not_met e.left (nth_subtree c.args.term.now c.args.at) f.0 f.1 i;
+  met = subst (λ classes. IsInstanceOf (in_class_of classes) c.equation.result.now.left (nth_subtree c.args.term.now c.args.at)) c.classes.ensures c.in-None.ensures;
+  first = λ k e lt there i. let f = c.loop-equation.invariant.failures.each k e lt there in failing_not_met c.args.rules.now.classes e.left (nth_subtree c.args.term.now c.args.at) f.0 f.1 i;
 }
 
 pub loop-equation-preserved : goal.loop-equation-preserved
 loop-equation-preserved c =
-    let fails = c.in-Some.ensures in
+    let fails = subst (λ classes. (c.args.at ≤ c.in-Some.node) × FailsAt classes c.equation.result.now.left (nth_subtree c.args.term.now c.args.at) (c.in-Some.node - c.args.at)) c.classes.ensures c.in-Some.ensures in
     let i = c.loop-equation.invariant in
     record {
       past = omega arith;

@@ -7,7 +7,7 @@ use Rattle.orthogonal_laws.proofs.next.plain_next.Goals as goal
 by_number : (c : goal.After-next_by_number) → IsNextBy (number_system c.args.symbols.now c.args.regular.now) c.args.term.now c.next_by_number.result
 by_number c =
     let table = c.args.symbols.now in
-    subst (λ es. IsNextBy (number_system table es) c.args.term.now c.next_by_number.result) c.rules.ensures.value
+    subst (λ rules. IsNextBy (number_system table rules) c.args.term.now c.next_by_number.result) c.rules.ensures.value
     (c.next_by_number.ensures (number_values table) (number_values_by table c.has_one_number_each.ensures.distinct))
 
 pub returns : goal.returns

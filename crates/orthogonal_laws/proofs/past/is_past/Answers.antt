@@ -1,7 +1,7 @@
 use Rattle.std.proofs.Common.{◌≡◌, Some, refl, sym, ◌∙◌, ap, subst}
 use Rattle.eq_base.specs.Tree.{nth_subtree}
 use Rattle.eq_base.specs.Pattern.{IsInstanceOf}
-use Rattle.eq_base.specs.Meeting.{in_symbol_class}
+use Rattle.eq_base.specs.Meeting.{in_class_of}
 use Rattle.eq_base.specs.Operations.{application_value}
 use Rattle.eq_base.specs.declared.rules.Right.TheVariants as rights
 use Rattle.eq_base.proofs.Heads.{some_same}
@@ -16,7 +16,7 @@ pub value_at-requires-clause-applied : goal.value_at-requires-clause-applied
 value_at-requires-clause-applied c =
     let a = applied_of c.args.rules.now c.requires.regular c.in-Meets.number c.equation.result.now c.equation.ensures c.in-Schema.op c.in-Schema.is in
     let same = some_same c.in-Meets.ensures.equation c.equation.result.now (sym c.in-Meets.ensures.listed ∙ c.equation.ensures) in
-    (a.0, subst (λ p. IsInstanceOf in_symbol_class p (nth_subtree c.args.term.now c.args.at)) a.1 (subst (λ e. IsInstanceOf in_symbol_class e.left (nth_subtree c.args.term.now c.args.at)) same c.in-Meets.ensures.met))
+    (a.0, (in_class_of c.args.rules.now.classes, subst (λ p. IsInstanceOf (in_class_of c.args.rules.now.classes) p (nth_subtree c.args.term.now c.args.at)) a.1 (subst (λ e. IsInstanceOf (in_class_of c.args.rules.now.classes) e.left (nth_subtree c.args.term.now c.args.at)) same c.in-Meets.ensures.met)))
 
 pub returns-in-Fails : goal.returns-in-Fails
 returns-in-Fails c = (
@@ -25,7 +25,7 @@ returns-in-Fails c = (
       let live = live_at c.args.symbols.now c.args.term.now c.args.at c.requires.at c.requires.live_term in
       let m = met_past c.args.symbols.now c.requires.distinct c.args.rules.now c.requires.live (nth_subtree c.args.term.now c.args.at) live p in
       let f = c.in-Fails.ensures.1.each m.number m.equation m.listed in
-      absurd (failing_not_met m.equation.left (nth_subtree c.args.term.now c.args.at) f.0 f.1 m.met),
+      absurd (failing_not_met c.args.rules.now.classes m.equation.left (nth_subtree c.args.term.now c.args.at) f.0 f.1 m.met),
 )
 
 pub returns-in-Tree : goal.returns-in-Tree
@@ -43,7 +43,7 @@ pub returns-in-Past : goal.returns-in-Past
 returns-in-Past c =
     let live = live_at c.args.symbols.now c.args.term.now c.args.at c.requires.at c.requires.live_term in
     let same = some_same c.in-Meets.ensures.equation c.equation.result.now (sym c.in-Meets.ensures.listed ∙ c.equation.ensures) in
-    let met = subst (λ e. IsInstanceOf in_symbol_class e.left (nth_subtree c.args.term.now c.args.at)) same c.in-Meets.ensures.met in (
+    let met = subst (λ e. IsInstanceOf (in_class_of c.args.rules.now.classes) e.left (nth_subtree c.args.term.now c.args.at)) same c.in-Meets.ensures.met in (
       λ e. past_read c.args.symbols.now c.requires.distinct c.args.rules.now c.requires.live (nth_subtree c.args.term.now c.args.at) live c.in-Meets.number c.equation.result.now c.equation.ensures met c.in-Schema.op c.in-Schema.is c.in-Past.ensures.0 c.in-Past.ensures.1 c.in-Past.ensures.2,
       λ p. refl,
     )

@@ -20,8 +20,8 @@ is_head c = sym c.cell-cell.ensures.value ∙ c.in-Head.is
 
 pub push_cell-requires-clause-missing : goal.push_cell-requires-clause-missing
 push_cell-requires-clause-missing c =
-    let σ = c.requires.fits.substitution in
-    let a = c.requires.fits.applied in
+    let σ = c.requires.fits.1.substitution in
+    let a = c.requires.fits.1.applied in
     push_head_room c.args.right.now c.args.left.now _ c.args.maker.now c.loop-i.maker c.loop-i.i c.loop-i.invariant (omega arith) σ c.in-Head.head c.in-Head.arity a (sym c.cell-cell.ensures.value ∙ c.in-Head.is) (c.requires.room σ a)
 
 pub push_cell-requires-clause-taken : goal.push_cell-requires-clause-taken
@@ -50,8 +50,8 @@ copied c σ a =
 pub copy-requires : goal.copy-requires
 copy-requires c =
     let d = (goal.at.copy-requires c).In-Some in
-    let σ = c.requires.fits.substitution in
-    let a = c.requires.fits.applied in
+    let σ = c.requires.fits.1.substitution in
+    let a = c.requires.fits.1.applied in
     record {
       order = omega arith;
       within = omega (arith, end_within c.args.term.now c.find-node.result c.find-node.ensures.there);

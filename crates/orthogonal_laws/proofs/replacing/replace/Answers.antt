@@ -32,13 +32,13 @@ pushed c σ a = c.in_ok-push_right.ensures σ a ∙ ap (λ m. m ++ cells (apply 
 pub copy-requires-2-clause-room : goal.copy-requires-2-clause-room
 copy-requires-2-clause-room c =
     let d = (goal.at.copy-requires-2-clause-room c).In_ok-push_right in
-    let fits = c.requires.fits in
+    let fits = c.requires.fits.1 in
     room_last c.args.term.now c.args.at c.requires.at (apply fits.substitution c.args.right.now) c.push_right.new.maker c.end_of-end.result c.len.result (pushed d fits.substitution fits.applied) c.end_of-end.ensures c.len.ensures
 
 pub finish-requires : goal.finish-requires
 finish-requires c =
     let d = (goal.at.finish-requires c).In_ok-push_right in
-    let fits = c.requires.fits in
+    let fits = c.requires.fits.1 in
     let all = done c.args.term.now c.args.at c.requires.at (apply fits.substitution c.args.right.now) c.push_right.new.maker c.end_of-end.result c.len.result (pushed d fits.substitution fits.applied) c.end_of-end.ensures c.len.ensures c.copy-2.new.maker c.in_ok-copy-2.ensures in
     ap missing_of all ∙ missing_of-cells (replace_at c.args.term.now (nth_position c.args.term.now c.args.at) (apply fits.substitution c.args.right.now))
 

@@ -31,14 +31,14 @@ unreachable-requires c =
     let s = nth_subtree c.args.left.now c.loop-at.at in
     let u = nth_subtree c.args.other.now c.loop-at.beside in
     find_no_clash c.args.left.now c.args.other.now c.args.variable c.requires.merge c.loop-at.at c.loop-at.beside c.loop-at.name c.loop-at.invariant (omega arith)
-    (faced s u _ _ _ facing.Clash c.cell-cell.ensures.value c.cell.ensures.value c.in-Clash.is c.facing_of.ensures)
+    (faced c.args.classes.now s u _ _ _ facing.Clash c.cell-cell.ensures.value c.cell.ensures.value c.in-Clash.is c.facing_of.ensures)
 
 pub loop-at-preserved-in-SameHead : goal.loop-at-preserved-in-SameHead
 loop-at-preserved-in-SameHead c =
     let s = nth_subtree c.args.left.now c.loop-at.at in
     let u = nth_subtree c.args.other.now c.loop-at.beside in
     find_down c.args.left.now c.args.other.now c.args.variable c.requires.merge c.loop-at.at c.loop-at.beside c.loop-at.name c.loop-at.invariant (omega arith)
-    (faced s u _ _ _ facing.SameHead c.cell-cell.ensures.value c.cell.ensures.value c.in-SameHead.is c.facing_of.ensures)
+    (faced c.args.classes.now s u _ _ _ facing.SameHead c.cell-cell.ensures.value c.cell.ensures.value c.in-SameHead.is c.facing_of.ensures)
     (λ own. other_variable c.variable.result c.args.variable c.if-eq.ensures (c.variable.ensures ∙ ap variable_in c.cell-cell.ensures.value ∙ variable_at_root (nth_subtree c.args.left.now c.loop-at.at) ∙ own))
 
 pub first_occurrence-own-requires-clause-end : goal.first_occurrence-own-requires-clause-end
@@ -49,7 +49,7 @@ returns-then-own-end-clause-value c =
     let s = nth_subtree c.args.left.now c.loop-at.at in
     let u = nth_subtree c.args.other.now c.loop-at.beside in
     let root = head_of_root s c.in-Head.field-0 c.in-Head.field-1 (sym c.cell-cell.ensures.value ∙ c.in-Head.is) in
-    let either = (passed _ _ _ c.in-Mismatch.is (faced s u _ _ _ _ c.cell-cell.ensures.value c.cell.ensures.value refl c.facing_of.ensures)).1 in
+    let either = (passed c.args.classes.now _ _ _ c.in-Mismatch.is (faced c.args.classes.now s u _ _ _ _ c.cell-cell.ensures.value c.cell.ensures.value refl c.facing_of.ensures)).1 in
     find_inside c.args.left.now c.args.other.now c.args.variable c.requires.merge c.loop-at.at c.loop-at.beside c.loop-at.name c.loop-at.invariant (omega arith)
     c.in-Head.field-0 root (other_no_head c.in-Head.field-0 root either) c.first_occurrence-own.result c.first_occurrence-own.ensures.from (omega (arith, c.end_of-end.ensures)) (c.first_occurrence-own.ensures.found c.if-own-end.true)
 
@@ -67,7 +67,7 @@ loop-at-preserved-else-own-end c =
     let s = nth_subtree c.args.left.now c.loop-at.at in
     let u = nth_subtree c.args.other.now c.loop-at.beside in
     let root = head_of_root s c.in-Head.field-0 c.in-Head.field-1 (sym c.cell-cell.ensures.value ∙ c.in-Head.is) in
-    let either = (passed _ _ _ c.in-Mismatch.is (faced s u _ _ _ _ c.cell-cell.ensures.value c.cell.ensures.value refl c.facing_of.ensures)).1 in
+    let either = (passed c.args.classes.now _ _ _ c.in-Mismatch.is (faced c.args.classes.now s u _ _ _ _ c.cell-cell.ensures.value c.cell.ensures.value refl c.facing_of.ensures)).1 in
     let wide : c.loop-at.name + (c.end_of-end.result - c.loop-at.at) ≡ c.loop-at.name + size s = omega (arith, c.end_of-end.ensures) in
     rw (wide, c.end_of-end.ensures, c.end_of-other_end.ensures)
     (find_past_own c.args.left.now c.args.other.now c.args.variable c.requires.merge c.loop-at.at c.loop-at.beside c.loop-at.name c.loop-at.invariant (omega arith) either
@@ -81,7 +81,7 @@ loop-at-preserved c =
     let s = nth_subtree c.args.left.now c.loop-at.at in
     let u = nth_subtree c.args.other.now c.loop-at.beside in
     let none : (h : heads.Head) → head_of s ≡ fixed h → ⊥ = no_head s (λ h m e. c.in_default.not-Head h m (c.cell-cell.ensures.value ∙ e)) in
-    let either = (passed _ _ _ c.in-Mismatch.is (faced s u _ _ _ _ c.cell-cell.ensures.value c.cell.ensures.value refl c.facing_of.ensures)).1 in
+    let either = (passed c.args.classes.now _ _ _ c.in-Mismatch.is (faced c.args.classes.now s u _ _ _ _ c.cell-cell.ensures.value c.cell.ensures.value refl c.facing_of.ensures)).1 in
     let wide : c.loop-at.name + (c.end_of-other_end.result - c.loop-at.beside) ≡ c.loop-at.name + size u = omega (arith, c.end_of-other_end.ensures) in
     rw (wide, c.end_of-end.ensures, c.end_of-other_end.ensures)
     (find_past_other c.args.left.now c.args.other.now c.args.variable c.requires.merge c.loop-at.at c.loop-at.beside c.loop-at.name c.loop-at.invariant (omega arith) either

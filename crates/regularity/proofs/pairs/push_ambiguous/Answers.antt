@@ -1,7 +1,7 @@
-use Rattle.std.proofs.Common.{arith}
+use Rattle.std.proofs.Common.{arith, sym, subst}
 use Rattle.regularity.proofs.Listed.{well_formed_at, agree_at_root}
 use Rattle.regularity.proofs.Order.{lists_found, lists_missed}
-use Rattle.regularity.specs.Violations.{IsOfTwo}
+use Rattle.regularity.specs.Violations.{AreAmbiguous, IsOfTwo}
 use Rattle.regularity.proofs.Twos.{ambiguous_start, ambiguous_done, first_not_single, second_not_single, ambiguous_here, not_ambiguous_here}
 use Rattle.regularity.proofs.pairs.push_ambiguous.Goals as goal
 use Rattle.regularity.proofs.pairs.push_ambiguous.Goals.{then-singles-second+then-are_ambiguous+in_ok-push, else-singles-second, else-singles-second-via-then-singles-second+else-are_ambiguous, else-singles-second-via-else-singles-second}
@@ -23,7 +23,7 @@ are_ambiguous-requires-clause-other c = (well_formed_at c.args.rules.now c.requi
 
 pub loop-second-preserved : goal.loop-second-preserved
 loop-second-preserved c =
-    let es = c.args.rules.now in
+    let rules = c.args.rules.now in
     let e = c.equation-one.result.now in
     let single = (c.requires.singles.tells c.args.first e c.equation-one.ensures).0 c.if-not-singles-first.false in
     let found = c.loop-second.found in
@@ -31,16 +31,16 @@ loop-second-preserved c =
     let second = c.loop-second.second in
     elim c.if-singles-second.branch [
       | then-singles-second+then-are_ambiguous+in_ok-push w ↦ rw (w.found-is, w.in_ok-push.ensures.ok, w.new.ensures)
-          (lists_found (IsOfTwo es) 3 first 0 second found c.loop-second.invariant
-          (ambiguous_here es first e c.equation-one.ensures second w.equation.result.now w.equation.ensures (omega arith) single
+          (lists_found (IsOfTwo rules) 3 first 0 second found c.loop-second.invariant
+          (ambiguous_here rules first e c.equation-one.ensures second w.equation.result.now w.equation.ensures (omega arith) single
           ((c.requires.singles.tells second w.equation.result.now w.equation.ensures).0 w.if-singles-second.true)
-          (w.are_ambiguous.ensures.0 w.if-are_ambiguous.true)))
+          (subst (λ classes. AreAmbiguous classes e w.equation.result.now) w.classes.ensures (w.are_ambiguous.ensures.0 w.if-are_ambiguous.true))))
       | else-singles-second w ↦ rw w.found-is
-          (lists_missed (IsOfTwo es) 3 first 0 second found c.loop-second.invariant
+          (lists_missed (IsOfTwo rules) 3 first 0 second found c.loop-second.invariant
           (elim w.else-singles-second.branch [
             | else-singles-second-via-then-singles-second+else-are_ambiguous v ↦ λ h.
-                let yes = v.are_ambiguous.ensures.1 (not_ambiguous_here es first e c.equation-one.ensures second v.equation.result.now v.equation.ensures h).1 in let no = v.if-are_ambiguous.false in cc
-            | else-singles-second-via-else-singles-second v ↦ second_not_single es c.args.singles.now c.requires.singles 3 first 0 second v.if-singles-second.false
+                let yes = v.are_ambiguous.ensures.1 (subst (λ classes. AreAmbiguous classes e v.equation.result.now) (sym v.classes.ensures) (not_ambiguous_here rules first e c.equation-one.ensures second v.equation.result.now v.equation.ensures h).1) in let no = v.if-are_ambiguous.false in cc
+            | else-singles-second-via-else-singles-second v ↦ second_not_single rules c.args.singles.now c.requires.singles 3 first 0 second v.if-singles-second.false
           ]))
     ]
 

@@ -2,6 +2,8 @@ use Rattle.std.proofs.Common.{arith, sym, ap, ◌∙◌, subst}
 use Rattle.eq_base.specs.Tree.{nth_subtree}
 use Rattle.eq_base.specs.Pattern.{IsTested}
 use Rattle.eq_base.specs.Cells.{kind_of}
+use Rattle.eq_base.specs.Meeting.{in_class_of}
+use Rattle.regularity.specs.Common.{HaveCommon}
 use Rattle.regularity.specs.Occurrences.{IsTestedPlace}
 use Rattle.regularity.specs.Violations.{IsOfTwo}
 use Rattle.regularity.proofs.Facings.{kind_of-root_cell}
@@ -30,7 +32,7 @@ new-requires-clause-place c =
 
 pub loop-second-preserved : goal.loop-second-preserved
 loop-second-preserved c =
-    let es = c.args.rules.now in
+    let rules = c.args.rules.now in
     let e = c.equation.result.now in
     let single = (c.requires.singles.tells c.args.first e c.equation.ensures).0 c.requires.single in
     let found = c.loop-second.found in
@@ -38,21 +40,21 @@ loop-second-preserved c =
     let place = c.args.place in
     let second = c.loop-second.second in
     let tested : IsTestedPlace e.left place = record {
-      there = place_there es first place e c.equation.ensures c.requires.first;
+      there = place_there rules first place e c.equation.ensures c.requires.first;
       tested = subst IsTested (ap kind_of c.cell.ensures.value ∙ kind_of-root_cell (nth_subtree e.left place)) (c.is_tested.ensures.0 c.if-not-is_tested.false);
     } in
     elim c.if-singles-second.branch [
       | then-singles-second+then-has_common+in_ok-push w ↦ rw (w.found-is, w.in_ok-push.ensures.ok, w.new.ensures)
-          (lists_found (IsOfTwo es) 4 first place second found c.loop-second.invariant
-          (overlap_here es first e c.equation.ensures second w.equation-then-singles-second.result.now w.equation-then-singles-second.ensures place c.requires.below tested single
+          (lists_found (IsOfTwo rules) 4 first place second found c.loop-second.invariant
+          (overlap_here rules first e c.equation.ensures second w.equation-then-singles-second.result.now w.equation-then-singles-second.ensures place c.requires.below tested single
           ((c.requires.singles.tells second w.equation-then-singles-second.result.now w.equation-then-singles-second.ensures).0 w.if-singles-second.true)
-          (w.has_common.ensures.0 w.if-has_common.true)))
+          (subst (λ classes. HaveCommon (in_class_of classes) (nth_subtree e.left place) w.equation-then-singles-second.result.now.left) w.classes.ensures (w.has_common.ensures.0 w.if-has_common.true))))
       | else-singles-second w ↦ rw w.found-is
-          (lists_missed (IsOfTwo es) 4 first place second found c.loop-second.invariant
+          (lists_missed (IsOfTwo rules) 4 first place second found c.loop-second.invariant
           (elim w.else-singles-second.branch [
             | else-singles-second-via-then-singles-second+else-has_common v ↦ λ h.
-                let yes = v.has_common.ensures.1 (not_overlap_here es first e c.equation.ensures second v.equation-then-singles-second.result.now v.equation-then-singles-second.ensures place h).1 in let none = v.if-has_common.false in cc
-            | else-singles-second-via-else-singles-second v ↦ second_not_single es c.args.singles.now c.requires.singles 4 first place second v.if-singles-second.false
+                let yes = v.has_common.ensures.1 (subst (λ classes. HaveCommon (in_class_of classes) (nth_subtree e.left place) v.equation-then-singles-second.result.now.left) (sym v.classes.ensures) (not_overlap_here rules first e c.equation.ensures second v.equation-then-singles-second.result.now v.equation-then-singles-second.ensures place h).1) in let none = v.if-has_common.false in cc
+            | else-singles-second-via-else-singles-second v ↦ second_not_single rules c.args.singles.now c.requires.singles 4 first place second v.if-singles-second.false
           ]))
     ]
 

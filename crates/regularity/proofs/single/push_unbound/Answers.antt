@@ -13,14 +13,14 @@ new-requires-clause-place c =
 
 pub loop-place-preserved : goal.loop-place-preserved
 loop-place-preserved c =
-    let es = c.args.rules.now in
+    let rules = c.args.rules.now in
     let e = c.equation-equation.result.now in
-    let here = unbound_here es c.args.first e c.equation-equation.ensures c.in-Tree.right c.in-Tree.is c.loop-place.place in
+    let here = unbound_here rules c.args.first e c.equation-equation.ensures c.in-Tree.right c.in-Tree.is c.loop-place.place in
     elim c.if-is_unbound.branch [
       | then-is_unbound+in_ok-push w ↦ rw (w.found-is, w.in_ok-push.ensures.ok, w.new.ensures)
-          (place_found es c.args.first e c.equation-equation.ensures c.loop-place.found 2 c.loop-place.place (here.0 (c.is_unbound.ensures.0 w.if-is_unbound.true)) c.loop-place.invariant)
+          (place_found rules c.args.first e c.equation-equation.ensures c.loop-place.found 2 c.loop-place.place (here.0 (c.is_unbound.ensures.0 w.if-is_unbound.true)) c.loop-place.invariant)
       | else-is_unbound w ↦ rw w.found-is
-          (place_missed es c.args.first e c.equation-equation.ensures c.loop-place.found 2 c.loop-place.place (λ h. let yes = c.is_unbound.ensures.1 (here.1 h) in let no = w.if-is_unbound.false in cc) c.loop-place.invariant)
+          (place_missed rules c.args.first e c.equation-equation.ensures c.loop-place.found 2 c.loop-place.place (λ h. let yes = c.is_unbound.ensures.1 (here.1 h) in let no = w.if-is_unbound.false in cc) c.loop-place.invariant)
     ]
 
 pub returns : goal.returns

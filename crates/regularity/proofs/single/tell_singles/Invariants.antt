@@ -7,5 +7,5 @@ use Rattle.regularity.proofs.single.tell_singles.Given as goal
 abbrev pub invariant-loop-number : goal.invariant-loop-number
 invariant-loop-number l = record {
   lengths : length l.singles.items ≡ l.number;
-  tells : (k : ℕ) (e : Equation) → k < l.number → slice_get l.rules k ≡ Some e → IsTrue (get_or l.singles.items k false) ↔ IsSingle e;
+  tells : (k : ℕ) (e : Equation) → k < l.number → slice_get l.rules.equations k ≡ Some e → IsTrue (get_or l.singles.items k false) ↔ IsSingle e;
 }

@@ -3,10 +3,12 @@ use Rattle.eq_base.specs.Tree.{nth_subtree}
 use Rattle.regularity.specs.Looking.{ListsBefore}
 use Rattle.eq_base.specs.Pattern.{IsTested}
 use Rattle.eq_base.specs.Cells.{kind_of}
+use Rattle.eq_base.specs.Meeting.{in_class_of}
 use Rattle.regularity.specs.Occurrences.{IsTestedPlace}
 use Rattle.regularity.proofs.Facings.{kind_of-root_cell}
 use Rattle.regularity.proofs.Listed.{well_formed_at, agree_at_part}
 use Rattle.regularity.proofs.Order.{lists_found, lists_missed}
+use Rattle.sequentiality.specs.Comparing.{HasFirstMismatch}
 use Rattle.sequentiality.specs.Violations.{IsNotSequential}
 use Rattle.sequentiality.proofs.Sequence.{place_there, untested_done, root_start, place_done, second_not_single, not_sequential_here, mismatch_here, told_listed, listed_told}
 use Rattle.sequentiality.proofs.order.push_breaks_at.Goals as goal
@@ -46,7 +48,7 @@ new-requires-clause-place c =
 
 pub loop-second-preserved : goal.loop-second-preserved
 loop-second-preserved c =
-    let es = c.args.rules.now in
+    let rules = c.args.rules.now in
     let e = c.equation.result.now in
     let single = (c.requires.singles.tells c.args.first e c.equation.ensures).0 c.requires.single in
     let found = c.loop-second.found in
@@ -54,7 +56,7 @@ loop-second-preserved c =
     let place = c.args.place in
     let second = c.loop-second.second in
     let tested : IsTestedPlace e.left place = record {
-      there = place_there es first place e c.equation.ensures c.requires.first;
+      there = place_there rules first place e c.equation.ensures c.requires.first;
       tested = subst IsTested (ap kind_of c.cell.ensures.value ∙ kind_of-root_cell (nth_subtree e.left place)) (c.is_tested.ensures.0 c.if-not-is_tested.false);
     } in
     let order : place ≡ 0 → first < second = λ root. elim c.if-place-eq0.branch [
@@ -63,18 +65,18 @@ loop-second-preserved c =
     ] in
     elim c.if-singles-second.branch [
       | then-singles-second+then-mismatches+then-not-is_told+in_ok-push w ↦ rw (w.found-is, w.in_ok-push.ensures.ok, w.new.ensures)
-          (lists_found (IsNotSequential es) 5 first place second found c.loop-second.invariant
-          (not_sequential_here es first e c.equation.ensures second w.equation-then-singles-second.result.now w.equation-then-singles-second.ensures place order tested single
+          (lists_found (IsNotSequential rules) 5 first place second found c.loop-second.invariant
+          (not_sequential_here rules first e c.equation.ensures second w.equation-then-singles-second.result.now w.equation-then-singles-second.ensures place order tested single
           ((c.requires.singles.tells second w.equation-then-singles-second.result.now w.equation-then-singles-second.ensures).0 w.if-singles-second.true)
-          (w.mismatches.ensures.0 w.if-mismatches.true)
-          (λ told. let answer = w.is_told.ensures.1 (told_listed es c.args.earlier.now c.requires.earlier first place second told) in let none = w.if-not-is_told.true in cc)))
+          (subst (λ classes. HasFirstMismatch (in_class_of classes) (nth_subtree e.left place) w.equation-then-singles-second.result.now.left) w.classes.ensures (w.mismatches.ensures.0 w.if-mismatches.true))
+          (λ told. let answer = w.is_told.ensures.1 (told_listed rules c.args.earlier.now c.requires.earlier first place second told) in let none = w.if-not-is_told.true in cc)))
       | else-singles-second w ↦ rw w.found-is
-          (lists_missed (IsNotSequential es) 5 first place second found c.loop-second.invariant
+          (lists_missed (IsNotSequential rules) 5 first place second found c.loop-second.invariant
           (elim w.else-singles-second.branch [
-            | else-singles-second-via-then-singles-second+then-mismatches+else-not-is_told v ↦ λ h. h.not_told (listed_told es c.args.earlier.now c.requires.earlier first place second (v.is_told.ensures.0 v.if-not-is_told.false))
+            | else-singles-second-via-then-singles-second+then-mismatches+else-not-is_told v ↦ λ h. h.not_told (listed_told rules c.args.earlier.now c.requires.earlier first place second (v.is_told.ensures.0 v.if-not-is_told.false))
             | else-singles-second-via-then-singles-second+else-mismatches v ↦ λ h.
-                let answer = v.mismatches.ensures.1 (mismatch_here es first e c.equation.ensures second v.equation-then-singles-second.result.now v.equation-then-singles-second.ensures place h) in let none = v.if-mismatches.false in cc
-            | else-singles-second-via-else-singles-second v ↦ second_not_single es c.args.singles.now c.requires.singles first place second v.if-singles-second.false
+                let answer = v.mismatches.ensures.1 (subst (λ classes. HasFirstMismatch (in_class_of classes) (nth_subtree e.left place) v.equation-then-singles-second.result.now.left) (sym v.classes.ensures) (mismatch_here rules first e c.equation.ensures second v.equation-then-singles-second.result.now v.equation-then-singles-second.ensures place h)) in let none = v.if-mismatches.false in cc
+            | else-singles-second-via-else-singles-second v ↦ second_not_single rules c.args.singles.now c.requires.singles first place second v.if-singles-second.false
           ]))
     ]
 

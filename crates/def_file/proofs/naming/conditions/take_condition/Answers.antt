@@ -9,15 +9,15 @@ use Rattle.def_file.proofs.naming.conditions.take_condition.Goals as goal
 pub returns-in_err-variable-clause-taking : goal.returns-in_err-variable-clause-taking
 returns-in_err-variable-clause-taking c = λ operations.
     let same : c.from_residual.result ≡ Err c.in_err-variable.field-0.0 = search rules in
-    taking_refused (notation_of c.args.syntax) c.args.text.now (knowing c.args.symbols.now c.args.variables.now operations) (knowing c.args.symbols.now c.args.variables.now operations) (Qualified (qualified_names c.args.before.now) c.args.condition.now.variable ∷ restriction_places (restriction c.args.condition.now.restriction)) c.from_residual.result c.in_err-variable.field-0.0 same (one_refused (notation_of c.args.syntax) c.args.text.now (knowing c.args.symbols.now c.args.variables.now operations) (knowing c.args.symbols.now c.args.variables.now operations) (Qualified (qualified_names c.args.before.now) c.args.condition.now.variable ∷ restriction_places (restriction c.args.condition.now.restriction)) (Qualified (qualified_names c.args.before.now) c.args.condition.now.variable ∷ restriction_places (restriction c.args.condition.now.restriction)) (Qualified (qualified_names c.args.before.now) c.args.condition.now.variable ∷ []) (restriction_places (restriction c.args.condition.now.restriction)) refl (none_taken (notation_of c.args.syntax) c.args.text.now (knowing c.args.symbols.now c.args.variables.now operations) (Qualified (qualified_names c.args.before.now) c.args.condition.now.variable ∷ restriction_places (restriction c.args.condition.now.restriction))) c.in_err-variable.field-0.0 (c.in_err-variable.ensures.taking c.args.syntax c.args.symbols.now operations))
+    taking_refused (notation_of c.args.syntax) c.args.text.now (knowing c.args.symbols.now c.args.listed.now operations) (knowing c.args.symbols.now c.args.listed.now operations) (Qualified (qualified_names c.args.before.now) c.args.condition.now.variable ∷ restriction_places (restriction c.args.condition.now.restriction)) c.from_residual.result c.in_err-variable.field-0.0 same (one_refused (notation_of c.args.syntax) c.args.text.now (knowing c.args.symbols.now c.args.listed.now operations) (knowing c.args.symbols.now c.args.listed.now operations) (Qualified (qualified_names c.args.before.now) c.args.condition.now.variable ∷ restriction_places (restriction c.args.condition.now.restriction)) (Qualified (qualified_names c.args.before.now) c.args.condition.now.variable ∷ restriction_places (restriction c.args.condition.now.restriction)) (Qualified (qualified_names c.args.before.now) c.args.condition.now.variable ∷ []) (restriction_places (restriction c.args.condition.now.restriction)) refl (none_taken (notation_of c.args.syntax) c.args.text.now (knowing c.args.symbols.now c.args.listed.now operations) (Qualified (qualified_names c.args.before.now) c.args.condition.now.variable ∷ restriction_places (restriction c.args.condition.now.restriction))) c.in_err-variable.field-0.0 (c.in_err-variable.ensures.taking c.args.syntax c.args.symbols.now operations))
 
 pub returns-in_err-choice-clause-taking : goal.returns-in_err-choice-clause-taking
 returns-in_err-choice-clause-taking c = λ operations.
     let same : c.from_residual-in_err-choice.result ≡ Err c.in_err-choice.field-0.0 = search rules in
-    let under = more_taken (notation_of c.args.syntax) c.args.text.now (knowing c.args.symbols.now c.args.variables.now operations) (knowing c.args.symbols.now c.args.variables.now operations) (Qualified (qualified_names c.args.before.now) c.args.condition.now.variable ∷ restriction_places (restriction c.args.condition.now.restriction)) (Qualified (qualified_names c.args.before.now) c.args.condition.now.variable ∷ restriction_places (restriction c.args.condition.now.restriction)) (Qualified (qualified_names c.args.before.now) c.args.condition.now.variable ∷ []) (restriction_places (restriction c.args.condition.now.restriction)) refl (none_taken (notation_of c.args.syntax) c.args.text.now (knowing c.args.symbols.now c.args.variables.now operations) (Qualified (qualified_names c.args.before.now) c.args.condition.now.variable ∷ restriction_places (restriction c.args.condition.now.restriction))) (knowing c.args.symbols.now c.args.variables.now operations) (c.in_ok-variable.ensures.taking c.args.syntax c.args.symbols.now operations) in
-    taking_refused (notation_of c.args.syntax) c.args.text.now (knowing c.args.symbols.now c.args.variables.now operations) (knowing c.take_restriction.new.symbols c.args.variables.now operations) (Qualified (qualified_names c.args.before.now) c.args.condition.now.variable ∷ restriction_places (restriction c.args.condition.now.restriction)) c.from_residual-in_err-choice.result c.in_err-choice.field-0.0 same (one_refused (notation_of c.args.syntax) c.args.text.now (knowing c.args.symbols.now c.args.variables.now operations) (knowing c.args.symbols.now c.args.variables.now operations) (Qualified (qualified_names c.args.before.now) c.args.condition.now.variable ∷ restriction_places (restriction c.args.condition.now.restriction)) (restriction_places (restriction c.args.condition.now.restriction)) (restriction_places (restriction c.args.condition.now.restriction)) [] (sym (append-nil (restriction_places (restriction c.args.condition.now.restriction)))) under c.in_err-choice.field-0.0 (c.in_err-choice.ensures.taking operations))
+    let under = more_taken (notation_of c.args.syntax) c.args.text.now (knowing c.args.symbols.now c.args.listed.now operations) (knowing c.args.symbols.now c.args.listed.now operations) (Qualified (qualified_names c.args.before.now) c.args.condition.now.variable ∷ restriction_places (restriction c.args.condition.now.restriction)) (Qualified (qualified_names c.args.before.now) c.args.condition.now.variable ∷ restriction_places (restriction c.args.condition.now.restriction)) (Qualified (qualified_names c.args.before.now) c.args.condition.now.variable ∷ []) (restriction_places (restriction c.args.condition.now.restriction)) refl (none_taken (notation_of c.args.syntax) c.args.text.now (knowing c.args.symbols.now c.args.listed.now operations) (Qualified (qualified_names c.args.before.now) c.args.condition.now.variable ∷ restriction_places (restriction c.args.condition.now.restriction))) (knowing c.args.symbols.now c.args.listed.now operations) (c.in_ok-variable.ensures.taking c.args.syntax c.args.symbols.now operations) in
+    taking_refused (notation_of c.args.syntax) c.args.text.now (knowing c.args.symbols.now c.args.listed.now operations) (knowing c.take_restriction.new.symbols c.args.listed.now operations) (Qualified (qualified_names c.args.before.now) c.args.condition.now.variable ∷ restriction_places (restriction c.args.condition.now.restriction)) c.from_residual-in_err-choice.result c.in_err-choice.field-0.0 same (one_refused (notation_of c.args.syntax) c.args.text.now (knowing c.args.symbols.now c.args.listed.now operations) (knowing c.args.symbols.now c.args.listed.now operations) (Qualified (qualified_names c.args.before.now) c.args.condition.now.variable ∷ restriction_places (restriction c.args.condition.now.restriction)) (restriction_places (restriction c.args.condition.now.restriction)) (restriction_places (restriction c.args.condition.now.restriction)) [] (sym (append-nil (restriction_places (restriction c.args.condition.now.restriction)))) under c.in_err-choice.field-0.0 (c.in_err-choice.ensures.taking operations))
 
 pub returns-clause-taking : goal.returns-clause-taking
 returns-clause-taking c = λ operations.
-    let under = more_taken (notation_of c.args.syntax) c.args.text.now (knowing c.args.symbols.now c.args.variables.now operations) (knowing c.args.symbols.now c.args.variables.now operations) (Qualified (qualified_names c.args.before.now) c.args.condition.now.variable ∷ restriction_places (restriction c.args.condition.now.restriction)) (Qualified (qualified_names c.args.before.now) c.args.condition.now.variable ∷ restriction_places (restriction c.args.condition.now.restriction)) (Qualified (qualified_names c.args.before.now) c.args.condition.now.variable ∷ []) (restriction_places (restriction c.args.condition.now.restriction)) refl (none_taken (notation_of c.args.syntax) c.args.text.now (knowing c.args.symbols.now c.args.variables.now operations) (Qualified (qualified_names c.args.before.now) c.args.condition.now.variable ∷ restriction_places (restriction c.args.condition.now.restriction))) (knowing c.args.symbols.now c.args.variables.now operations) (c.in_ok-variable.ensures.taking c.args.syntax c.args.symbols.now operations) in
-    under.takes (knowing c.take_restriction.new.symbols c.args.variables.now operations) (c.in_ok-choice.ensures.taking operations)
+    let under = more_taken (notation_of c.args.syntax) c.args.text.now (knowing c.args.symbols.now c.args.listed.now operations) (knowing c.args.symbols.now c.args.listed.now operations) (Qualified (qualified_names c.args.before.now) c.args.condition.now.variable ∷ restriction_places (restriction c.args.condition.now.restriction)) (Qualified (qualified_names c.args.before.now) c.args.condition.now.variable ∷ restriction_places (restriction c.args.condition.now.restriction)) (Qualified (qualified_names c.args.before.now) c.args.condition.now.variable ∷ []) (restriction_places (restriction c.args.condition.now.restriction)) refl (none_taken (notation_of c.args.syntax) c.args.text.now (knowing c.args.symbols.now c.args.listed.now operations) (Qualified (qualified_names c.args.before.now) c.args.condition.now.variable ∷ restriction_places (restriction c.args.condition.now.restriction))) (knowing c.args.symbols.now c.args.listed.now operations) (c.in_ok-variable.ensures.taking c.args.syntax c.args.symbols.now operations) in
+    under.takes (knowing c.take_restriction.new.symbols c.args.listed.now operations) (c.in_ok-choice.ensures.taking operations)

@@ -31,7 +31,7 @@ next_condition cs i c is h =
     ap (λ xs. condition_places (qualified_names (take i cs)) (map condition xs)) rest ∙ ap (λ ns. places_at cs i c ++ condition_places ns (map condition (drop (i + 1) cs))) (sym names)
 
 pub loop-i-init : goal.loop-i-init
-loop-i-init c = record { under_way = λ operations. none_taken (notation_of c.args.syntax) c.args.text.now _ _; placed = c.requires.placed; keeps = keeps_refl _; conditions = λ later operations k. subst (AreRelated (λ (w : Written) (t : TakenCondition). TakesCondition (notation_of c.args.syntax) c.args.text.now (knowing later c.args.variables.now operations) later w.variable w.restriction t) []) (sym c.new-taken.ensures.items) tt }
+loop-i-init c = record { under_way = λ operations. none_taken (notation_of c.args.syntax) c.args.text.now _ _; placed = c.requires.placed; keeps = keeps_refl _; conditions = λ later operations k. subst (AreRelated (λ (w : Written) (t : TakenCondition). TakesCondition (notation_of c.args.syntax) c.args.text.now (knowing later c.args.listed.now operations) later w.variable w.restriction t) []) (sym c.new-taken.ensures.items) tt }
 
 pub take_condition-requires : goal.take_condition-requires
 take_condition-requires c = record { placed = (all_split (IsPlaced c.args.text.now) (places_at c.args.conditions.now c.loop-i.i c.index-conditions-i.result) (places_from c.args.conditions.now (c.loop-i.i + 1)) (subst (ArePlaced c.args.text.now) (next_condition c.args.conditions.now c.loop-i.i c.index-conditions-i.result c.index-conditions-i.is c.loop-i-test.true) c.loop-i.invariant.placed)).0 }
@@ -39,7 +39,7 @@ take_condition-requires c = record { placed = (all_split (IsPlaced c.args.text.n
 pub returns-in_err-condition-clause-taking : goal.returns-in_err-condition-clause-taking
 returns-in_err-condition-clause-taking c = λ operations.
     let same : c.from_residual.result ≡ Err c.in_err-condition.field-0.0 = search rules in
-    taking_refused (notation_of c.args.syntax) c.args.text.now (knowing c.args.symbols.now c.args.variables.now operations) (knowing c.take_condition.new.symbols c.args.variables.now operations) (condition_places [] (map condition c.args.conditions.now)) c.from_residual.result c.in_err-condition.field-0.0 same (one_refused (notation_of c.args.syntax) c.args.text.now (knowing c.args.symbols.now c.args.variables.now operations) (knowing c.loop-i.symbols c.args.variables.now operations) (condition_places [] (map condition c.args.conditions.now)) (places_from c.args.conditions.now c.loop-i.i) (places_at c.args.conditions.now c.loop-i.i c.index-conditions-i.result) (places_from c.args.conditions.now (c.loop-i.i + 1)) (next_condition c.args.conditions.now c.loop-i.i c.index-conditions-i.result c.index-conditions-i.is c.loop-i-test.true) (c.loop-i.invariant.under_way operations) c.in_err-condition.field-0.0 (c.in_err-condition.ensures.taking operations))
+    taking_refused (notation_of c.args.syntax) c.args.text.now (knowing c.args.symbols.now c.args.listed.now operations) (knowing c.take_condition.new.symbols c.args.listed.now operations) (condition_places [] (map condition c.args.conditions.now)) c.from_residual.result c.in_err-condition.field-0.0 same (one_refused (notation_of c.args.syntax) c.args.text.now (knowing c.args.symbols.now c.args.listed.now operations) (knowing c.loop-i.symbols c.args.listed.now operations) (condition_places [] (map condition c.args.conditions.now)) (places_from c.args.conditions.now c.loop-i.i) (places_at c.args.conditions.now c.loop-i.i c.index-conditions-i.result) (places_from c.args.conditions.now (c.loop-i.i + 1)) (next_condition c.args.conditions.now c.loop-i.i c.index-conditions-i.result c.index-conditions-i.is c.loop-i-test.true) (c.loop-i.invariant.under_way operations) c.in_err-condition.field-0.0 (c.in_err-condition.ensures.taking operations))
 
 pub returns-in_err-condition-clause-keeps : goal.returns-in_err-condition-clause-keeps
 returns-in_err-condition-clause-keeps c = keeps_trans _ _ _ c.loop-i.invariant.keeps c.take_condition.ensures.keeps
@@ -49,11 +49,11 @@ returns-in_err-push-clause-keeps c = keeps_trans _ _ _ c.loop-i.invariant.keeps 
 
 pub loop-i-preserved : goal.loop-i-preserved
 loop-i-preserved c = record {
-  under_way = λ operations. more_taken (notation_of c.args.syntax) c.args.text.now (knowing c.args.symbols.now c.args.variables.now operations) (knowing c.loop-i.symbols c.args.variables.now operations) (condition_places [] (map condition c.args.conditions.now)) (places_from c.args.conditions.now c.loop-i.i) (places_at c.args.conditions.now c.loop-i.i c.index-conditions-i.result) (places_from c.args.conditions.now (c.loop-i.i + 1)) (next_condition c.args.conditions.now c.loop-i.i c.index-conditions-i.result c.index-conditions-i.is c.loop-i-test.true) (c.loop-i.invariant.under_way operations) (knowing c.take_condition.new.symbols c.args.variables.now operations) (c.in_ok-condition.ensures.taking operations);
+  under_way = λ operations. more_taken (notation_of c.args.syntax) c.args.text.now (knowing c.args.symbols.now c.args.listed.now operations) (knowing c.loop-i.symbols c.args.listed.now operations) (condition_places [] (map condition c.args.conditions.now)) (places_from c.args.conditions.now c.loop-i.i) (places_at c.args.conditions.now c.loop-i.i c.index-conditions-i.result) (places_from c.args.conditions.now (c.loop-i.i + 1)) (next_condition c.args.conditions.now c.loop-i.i c.index-conditions-i.result c.index-conditions-i.is c.loop-i-test.true) (c.loop-i.invariant.under_way operations) (knowing c.take_condition.new.symbols c.args.listed.now operations) (c.in_ok-condition.ensures.taking operations);
   placed = (all_split (IsPlaced c.args.text.now) (places_at c.args.conditions.now c.loop-i.i c.index-conditions-i.result) (places_from c.args.conditions.now (c.loop-i.i + 1)) (subst (ArePlaced c.args.text.now) (next_condition c.args.conditions.now c.loop-i.i c.index-conditions-i.result c.index-conditions-i.is c.loop-i-test.true) c.loop-i.invariant.placed)).1;
   keeps = keeps_trans _ _ _ c.loop-i.invariant.keeps c.take_condition.ensures.keeps;
   conditions = λ later operations k.
-      let R = λ (w : Written) (t : TakenCondition). TakesCondition (notation_of c.args.syntax) c.args.text.now (knowing later c.args.variables.now operations) later w.variable w.restriction t in
+      let R = λ (w : Written) (t : TakenCondition). TakesCondition (notation_of c.args.syntax) c.args.text.now (knowing later c.args.listed.now operations) later w.variable w.restriction t in
       let before = c.loop-i.invariant.conditions later operations (keeps_trans _ _ _ c.take_condition.ensures.keeps k) in
       let next : map condition (take (c.loop-i.i + 1) c.args.conditions.now) ≡ map condition (take c.loop-i.i c.args.conditions.now) ++ condition c.index-conditions-i.result ∷ [] =
       ap (map condition) (take-next c.args.conditions.now c.loop-i.i c.index-conditions-i.result c.index-conditions-i.result c.index-conditions-i.is c.loop-i-test.true) ∙ map-append condition (take c.loop-i.i c.args.conditions.now) (c.index-conditions-i.result ∷ []) in
@@ -62,7 +62,7 @@ loop-i-preserved c = record {
 }
 
 pub returns-clause-taking : goal.returns-clause-taking
-returns-clause-taking c = λ operations. all_taken (notation_of c.args.syntax) c.args.text.now (knowing c.args.symbols.now c.args.variables.now operations) (knowing c.loop-i.symbols c.args.variables.now operations) (condition_places [] (map condition c.args.conditions.now)) (places_from c.args.conditions.now c.loop-i.i) (ap (λ xs. condition_places (qualified_names (take c.loop-i.i c.args.conditions.now)) (map condition xs)) (drop_all c.loop-i.i c.args.conditions.now c.loop-i-test.false)) (c.loop-i.invariant.under_way operations)
+returns-clause-taking c = λ operations. all_taken (notation_of c.args.syntax) c.args.text.now (knowing c.args.symbols.now c.args.listed.now operations) (knowing c.loop-i.symbols c.args.listed.now operations) (condition_places [] (map condition c.args.conditions.now)) (places_from c.args.conditions.now c.loop-i.i) (ap (λ xs. condition_places (qualified_names (take c.loop-i.i c.args.conditions.now)) (map condition xs)) (drop_all c.loop-i.i c.args.conditions.now c.loop-i-test.false)) (c.loop-i.invariant.under_way operations)
 
 pub returns-clause-conditions : goal.returns-clause-conditions
-returns-clause-conditions c = λ later operations k. subst (λ l. AreRelated (λ (w : Written) (t : TakenCondition). TakesCondition (notation_of c.args.syntax) c.args.text.now (knowing later c.args.variables.now operations) later w.variable w.restriction t) (map condition l) c.loop-i.taken.items) (take_all c.loop-i.i c.args.conditions.now c.loop-i-test.false) (c.loop-i.invariant.conditions later operations k)
+returns-clause-conditions c = λ later operations k. subst (λ l. AreRelated (λ (w : Written) (t : TakenCondition). TakesCondition (notation_of c.args.syntax) c.args.text.now (knowing later c.args.listed.now operations) later w.variable w.restriction t) (map condition l) c.loop-i.taken.items) (take_all c.loop-i.i c.args.conditions.now c.loop-i-test.false) (c.loop-i.invariant.conditions later operations k)

@@ -12,8 +12,8 @@ use Rattle.def_file.proofs.naming.conditions.take_conditions.Given as goal
 
 abbrev pub invariant-loop-i : goal.invariant-loop-i
 invariant-loop-i l = record {
-  under_way : (operations : List Op) → IsUnderWay (notation_of l.syntax) l.text (knowing l.initial.symbols l.variables operations) (condition_places [] (map condition l.conditions)) (knowing l.symbols l.variables operations) (condition_places (qualified_names (take l.i l.conditions)) (map condition (drop l.i l.conditions)));
+  under_way : (operations : List Op) → IsUnderWay (notation_of l.syntax) l.text (knowing l.initial.symbols l.listed operations) (condition_places [] (map condition l.conditions)) (knowing l.symbols l.listed operations) (condition_places (qualified_names (take l.i l.conditions)) (map condition (drop l.i l.conditions)));
   placed : ArePlaced l.text (condition_places (qualified_names (take l.i l.conditions)) (map condition (drop l.i l.conditions)));
   keeps : Keeps l.initial.symbols l.symbols;
-  conditions : Lasts (λ known table. AreRelated (λ c t. TakesCondition (notation_of l.syntax) l.text known table c.variable c.restriction t) (map condition (take l.i l.conditions)) l.taken.items) l.symbols l.variables;
+  conditions : Lasts (λ known table. AreRelated (λ c t. TakesCondition (notation_of l.syntax) l.text known table c.variable c.restriction t) (map condition (take l.i l.conditions)) l.taken.items) l.symbols l.listed;
 }

@@ -53,7 +53,7 @@ take_item-requires c = record { placed = (all_split (IsPlaced c.args.text.now) (
 pub returns-in_err-next-clause-taking : goal.returns-in_err-next-clause-taking
 returns-in_err-next-clause-taking c =
     let same : c.from_residual.result ≡ Err c.in_err-next.field-0.0 = search rules in
-    taking_refused (notation_of c.args.syntax) c.args.text.now (knowing c.args.symbols.now c.args.variables.now c.args.operations.now.items) (knowing c.take_item.new.symbols c.args.variables.now c.take_item.new.operations.items) (places_of_items c.args.items.now) c.from_residual.result c.in_err-next.field-0.0 same (one_refused (notation_of c.args.syntax) c.args.text.now (knowing c.args.symbols.now c.args.variables.now c.args.operations.now.items) (knowing c.loop-i.symbols c.args.variables.now c.loop-i.operations.items) (places_of_items c.args.items.now) (places_of_items (drop c.loop-i.i c.args.items.now)) (item_places (equation_item c.index-items-i.result)) (places_of_items (drop (c.loop-i.i + 1) c.args.items.now)) (next_item c.args.items.now c.loop-i.i c.index-items-i.result c.index-items-i.is c.loop-i-test.true) c.loop-i.invariant.under_way c.in_err-next.field-0.0 c.in_err-next.ensures.taking)
+    taking_refused (notation_of c.args.syntax) c.args.text.now (knowing c.args.symbols.now c.args.listed.now c.args.operations.now.items) (knowing c.take_item.new.symbols c.args.listed.now c.take_item.new.operations.items) (places_of_items c.args.items.now) c.from_residual.result c.in_err-next.field-0.0 same (one_refused (notation_of c.args.syntax) c.args.text.now (knowing c.args.symbols.now c.args.listed.now c.args.operations.now.items) (knowing c.loop-i.symbols c.args.listed.now c.loop-i.operations.items) (places_of_items c.args.items.now) (places_of_items (drop c.loop-i.i c.args.items.now)) (item_places (equation_item c.index-items-i.result)) (places_of_items (drop (c.loop-i.i + 1) c.args.items.now)) (next_item c.args.items.now c.loop-i.i c.index-items-i.result c.index-items-i.is c.loop-i-test.true) c.loop-i.invariant.under_way c.in_err-next.field-0.0 c.in_err-next.ensures.taking)
 
 pub returns-in_err-next-clause-keeps : goal.returns-in_err-next-clause-keeps
 returns-in_err-next-clause-keeps c = keeps_trans _ _ _ c.loop-i.invariant.keeps c.take_item.ensures.keeps
@@ -63,13 +63,13 @@ returns-in_err-push-clause-keeps c = keeps_trans _ _ _ c.loop-i.invariant.keeps 
 
 pub loop-i-preserved : goal.loop-i-preserved
 loop-i-preserved c = record {
-  under_way = more_taken (notation_of c.args.syntax) c.args.text.now (knowing c.args.symbols.now c.args.variables.now c.args.operations.now.items) (knowing c.loop-i.symbols c.args.variables.now c.loop-i.operations.items) (places_of_items c.args.items.now) (places_of_items (drop c.loop-i.i c.args.items.now)) (item_places (equation_item c.index-items-i.result)) (places_of_items (drop (c.loop-i.i + 1) c.args.items.now)) (next_item c.args.items.now c.loop-i.i c.index-items-i.result c.index-items-i.is c.loop-i-test.true) c.loop-i.invariant.under_way (knowing c.take_item.new.symbols c.args.variables.now c.take_item.new.operations.items) c.in_ok-next.ensures.taking;
+  under_way = more_taken (notation_of c.args.syntax) c.args.text.now (knowing c.args.symbols.now c.args.listed.now c.args.operations.now.items) (knowing c.loop-i.symbols c.args.listed.now c.loop-i.operations.items) (places_of_items c.args.items.now) (places_of_items (drop c.loop-i.i c.args.items.now)) (item_places (equation_item c.index-items-i.result)) (places_of_items (drop (c.loop-i.i + 1) c.args.items.now)) (next_item c.args.items.now c.loop-i.i c.index-items-i.result c.index-items-i.is c.loop-i-test.true) c.loop-i.invariant.under_way (knowing c.take_item.new.symbols c.args.listed.now c.take_item.new.operations.items) c.in_ok-next.ensures.taking;
   placed = (all_split (IsPlaced c.args.text.now) (item_places (equation_item c.index-items-i.result)) (places_of_items (drop (c.loop-i.i + 1) c.args.items.now)) (subst (ArePlaced c.args.text.now) (next_item c.args.items.now c.loop-i.i c.index-items-i.result c.index-items-i.is c.loop-i-test.true) c.loop-i.invariant.placed)).1;
   keeps = keeps_trans _ _ _ c.loop-i.invariant.keeps c.take_item.ensures.keeps;
   few = subst (λ n. n ≤ c.loop-i.i + 1) (sym c.in_ok-push.ensures.equations) (few_behind c.loop-i.taken.equations c.loop-i.i c.in_ok-next.next c.loop-i.invariant.few);
-  equations = c.in_ok-push.ensures.equations ∙ count_more (notation_of c.args.syntax) c.args.text.now (knowing c.take_item.new.symbols c.args.variables.now []) c.take_item.new.symbols c.loop-i.taken.equations (items_before c.args.items.now c.loop-i.i) (equation_item c.index-items-i.result) c.in_ok-next.next c.loop-i.invariant.equations (c.in_ok-next.ensures.item c.take_item.new.symbols [] (keeps_refl _)) ∙ ap (λ xs. length (flat_map equation_of xs)) (sym (map_next equation_item c.args.items.now c.loop-i.i c.index-items-i.result c.index-items-i.result c.index-items-i.is c.loop-i-test.true));
+  equations = c.in_ok-push.ensures.equations ∙ count_more (notation_of c.args.syntax) c.args.text.now (knowing c.take_item.new.symbols c.args.listed.now []) c.take_item.new.symbols c.loop-i.taken.equations (items_before c.args.items.now c.loop-i.i) (equation_item c.index-items-i.result) c.in_ok-next.next c.loop-i.invariant.equations (c.in_ok-next.ensures.item c.take_item.new.symbols [] (keeps_refl _)) ∙ ap (λ xs. length (flat_map equation_of xs)) (sym (map_next equation_item c.args.items.now c.loop-i.i c.index-items-i.result c.index-items-i.result c.index-items-i.is c.loop-i-test.true));
   items = λ later operations k.
-      let known = knowing later c.args.variables.now operations in
+      let known = knowing later c.args.listed.now operations in
       let taken = c.in_ok-next.ensures.item later operations k in
       let before = c.loop-i.invariant.items later operations (keeps_trans _ _ _ c.take_item.ensures.keeps k) in
       let xs = items_before c.args.items.now c.loop-i.i in
@@ -80,9 +80,9 @@ loop-i-preserved c = record {
   live = λ later operations k.
       let before = c.loop-i.invariant.live later operations (keeps_trans _ _ _ c.take_item.ensures.keeps k) in
       subst (AreLiveItems later) (sym c.in_ok-push.ensures.items)
-      (live_more (notation_of c.args.syntax) c.args.text.now (knowing later c.args.variables.now operations) later (c.loop-i.i + 1) c.loop-i.taken.equations (equation_item c.index-items-i.result) c.loop-i.taken.items.items c.in_ok-next.next before (c.in_ok-next.ensures.item later operations k));
+      (live_more (notation_of c.args.syntax) c.args.text.now (knowing later c.args.listed.now operations) later (c.loop-i.i + 1) c.loop-i.taken.equations (equation_item c.index-items-i.result) c.loop-i.taken.items.items c.in_ok-next.next before (c.in_ok-next.ensures.item later operations k));
   limits = λ later operations k.
-      let known = knowing later c.args.variables.now operations in
+      let known = knowing later c.args.listed.now operations in
       let xs = items_before c.args.items.now c.loop-i.i in
       let x = equation_item c.index-items-i.result in
       let taken = subst (λ n. TakesItem (notation_of c.args.syntax) c.args.text.now known later n x c.in_ok-next.next) c.loop-i.invariant.equations (c.in_ok-next.ensures.item later operations k) in
@@ -93,7 +93,7 @@ loop-i-preserved c = record {
 }
 
 pub returns-clause-taking : goal.returns-clause-taking
-returns-clause-taking c = all_taken (notation_of c.args.syntax) c.args.text.now (knowing c.args.symbols.now c.args.variables.now c.args.operations.now.items) (knowing c.loop-i.symbols c.args.variables.now c.loop-i.operations.items) (places_of_items c.args.items.now) (places_of_items (drop c.loop-i.i c.args.items.now)) (ap places_of_items (drop_all c.loop-i.i c.args.items.now c.loop-i-test.false)) c.loop-i.invariant.under_way
+returns-clause-taking c = all_taken (notation_of c.args.syntax) c.args.text.now (knowing c.args.symbols.now c.args.listed.now c.args.operations.now.items) (knowing c.loop-i.symbols c.args.listed.now c.loop-i.operations.items) (places_of_items c.args.items.now) (places_of_items (drop c.loop-i.i c.args.items.now)) (ap places_of_items (drop_all c.loop-i.i c.args.items.now c.loop-i-test.false)) c.loop-i.invariant.under_way
 
 pub push-requires : goal.push-requires
 push-requires c = omega (arith, c.loop-i.invariant.few, c.loop-i-test.true, c.requires.room)
@@ -102,10 +102,10 @@ pub returns-in_err-push-clause-taking : goal.returns-in_err-push-clause-taking
 returns-in_err-push-clause-taking c =
     let p = err_from_is_err_and c.from_residual-in_err-push.result c.from_residual-in_err-push.ensures.1 in
     let same : c.from_residual-in_err-push.result ≡ Err NoMemory = cc (p.1, p.2) in
-    taking_refused (notation_of c.args.syntax) c.args.text.now (knowing c.args.symbols.now c.args.variables.now c.args.operations.now.items) (knowing c.take_item.new.symbols c.args.variables.now c.take_item.new.operations.items) (places_of_items c.args.items.now) c.from_residual-in_err-push.result NoMemory same tt
+    taking_refused (notation_of c.args.syntax) c.args.text.now (knowing c.args.symbols.now c.args.listed.now c.args.operations.now.items) (knowing c.take_item.new.symbols c.args.listed.now c.take_item.new.operations.items) (places_of_items c.args.items.now) c.from_residual-in_err-push.result NoMemory same tt
 
 pub returns-clause-items : goal.returns-clause-items
-returns-clause-items c = λ later operations k. subst (λ xs. MeanItems (notation_of c.args.syntax) c.args.text.now (knowing later c.args.variables.now operations) 1 (map equation_item xs) (map (numbered_read later) c.loop-i.taken.items.items)) (take_all c.loop-i.i c.args.items.now c.loop-i-test.false) (c.loop-i.invariant.items later operations k)
+returns-clause-items c = λ later operations k. subst (λ xs. MeanItems (notation_of c.args.syntax) c.args.text.now (knowing later c.args.listed.now operations) 1 (map equation_item xs) (map (numbered_read later) c.loop-i.taken.items.items)) (take_all c.loop-i.i c.args.items.now c.loop-i-test.false) (c.loop-i.invariant.items later operations k)
 
 pub returns-clause-limits : goal.returns-clause-limits
-returns-clause-limits c = λ later operations k. subst (λ xs. AnswersLimits (notation_of c.args.syntax) c.args.text.now (knowing later c.args.variables.now operations) (all_limits 0 (flat_map equation_of (map equation_item xs))) c.loop-i.taken.fault) (take_all c.loop-i.i c.args.items.now c.loop-i-test.false) (c.loop-i.invariant.limits later operations k)
+returns-clause-limits c = λ later operations k. subst (λ xs. AnswersLimits (notation_of c.args.syntax) c.args.text.now (knowing later c.args.listed.now operations) (all_limits 0 (flat_map equation_of (map equation_item xs))) c.loop-i.taken.fault) (take_all c.loop-i.i c.args.items.now c.loop-i-test.false) (c.loop-i.invariant.limits later operations k)

@@ -14,12 +14,12 @@ use Rattle.def_file.proofs.naming.items.take_items.Given as goal
 
 abbrev pub invariant-loop-i : goal.invariant-loop-i
 invariant-loop-i l = record {
-  under_way : IsUnderWay (notation_of l.syntax) l.text (knowing l.initial.symbols l.variables l.initial.operations.items) (flat_map item_places (map equation_item l.items)) (knowing l.symbols l.variables l.operations.items) (flat_map item_places (map equation_item (drop l.i l.items)));
+  under_way : IsUnderWay (notation_of l.syntax) l.text (knowing l.initial.symbols l.listed l.initial.operations.items) (flat_map item_places (map equation_item l.items)) (knowing l.symbols l.listed l.operations.items) (flat_map item_places (map equation_item (drop l.i l.items)));
   placed : ArePlaced l.text (flat_map item_places (map equation_item (drop l.i l.items)));
   keeps : Keeps l.initial.symbols l.symbols;
   few : l.taken.equations ≤ l.i;
   equations : l.taken.equations ≡ length (flat_map equation_of (map equation_item (take l.i l.items)));
-  items : Lasts (λ known table. MeanItems (notation_of l.syntax) l.text known 1 (map equation_item (take l.i l.items)) (map (numbered_read table) l.taken.items.items)) l.symbols l.variables;
-  live : Lasts (λ known table. AreLiveItems table l.taken.items.items) l.symbols l.variables;
-  limits : Lasts (λ known table. AnswersLimits (notation_of l.syntax) l.text known (all_limits 0 (flat_map equation_of (map equation_item (take l.i l.items)))) l.taken.fault) l.symbols l.variables;
+  items : Lasts (λ known table. MeanItems (notation_of l.syntax) l.text known 1 (map equation_item (take l.i l.items)) (map (numbered_read table) l.taken.items.items)) l.symbols l.listed;
+  live : Lasts (λ known table. AreLiveItems table l.taken.items.items) l.symbols l.listed;
+  limits : Lasts (λ known table. AnswersLimits (notation_of l.syntax) l.text known (all_limits 0 (flat_map equation_of (map equation_item (take l.i l.items)))) l.taken.fault) l.symbols l.listed;
 }

@@ -22,13 +22,13 @@ refused_term notation text known byte NoMemory h = tt
 pub returns-in_err-pattern-clause-taking : goal.returns-in_err-pattern-clause-taking
 returns-in_err-pattern-clause-taking c = λ operations.
     let same : c.from_residual.result ≡ Err (of_read c.in_err-pattern.field-0.0) = search rules in
-    let old = knowing c.args.symbols.now c.args.variables.now operations in
-    taking_refused (notation_of c.args.syntax) c.args.text.now old (knowing c.read_pattern.new.symbols c.args.variables.now operations) (Term c.args.byte ∷ []) c.from_residual.result (of_read c.in_err-pattern.field-0.0) same
+    let old = knowing c.args.symbols.now c.args.listed.now operations in
+    taking_refused (notation_of c.args.syntax) c.args.text.now old (knowing c.read_pattern.new.symbols c.args.listed.now operations) (Term c.args.byte ∷ []) c.from_residual.result (of_read c.in_err-pattern.field-0.0) same
     (refused_term (notation_of c.args.syntax) c.args.text.now old c.args.byte c.in_err-pattern.field-0.0 c.in_err-pattern.ensures.answer)
 
 -- the pattern is read in each table that keeps this one
 pub returns-clause-pattern : goal.returns-clause-pattern
 returns-clause-pattern c = λ later operations k.
-    taken_later (notation_of c.args.syntax) c.args.text.now c.args.variables.now operations c.args.symbols.now c.read_pattern.new.symbols later
+    taken_later (notation_of c.args.syntax) c.args.text.now c.args.listed.now operations c.args.symbols.now c.read_pattern.new.symbols later
     c.in_ok-pattern.ensures.keeps k c.args.byte c.in_ok-pattern.pattern c.in_ok-pattern.field-0-1
     c.in_ok-pattern.ensures.answer c.in_ok-pattern.ensures.live

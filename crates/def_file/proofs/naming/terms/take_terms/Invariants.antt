@@ -11,8 +11,8 @@ use Rattle.def_file.proofs.naming.terms.take_terms.Given as goal
 
 abbrev pub invariant-loop-byte : goal.invariant-loop-byte
 invariant-loop-byte l = record {
-  under_way : (operations : List Op) → IsUnderWay (notation_of l.syntax) l.text (knowing l.initial.symbols l.variables operations) (map Term l.terms) (knowing l.symbols l.variables operations) (map Term (drop l.byte-index l.terms));
+  under_way : (operations : List Op) → IsUnderWay (notation_of l.syntax) l.text (knowing l.initial.symbols l.listed operations) (map Term l.terms) (knowing l.symbols l.listed operations) (map Term (drop l.byte-index l.terms));
   placed : ArePlaced l.text (map Term (drop l.byte-index l.terms));
   keeps : Keeps l.initial.symbols l.symbols;
-  patterns : Lasts (λ known table. AreRelated (IsSideTaken (notation_of l.syntax) l.text known table) (take l.byte-index l.terms) l.patterns.items) l.symbols l.variables;
+  patterns : Lasts (λ known table. AreRelated (IsSideTaken (notation_of l.syntax) l.text known table) (take l.byte-index l.terms) l.patterns.items) l.symbols l.listed;
 }

@@ -1,4 +1,4 @@
-use Rattle.std.proofs.Common.{◌≤◌, ◌+◌, drop, map, length}
+use Rattle.std.proofs.Common.{◌≡◌, ◌≤◌, ◌+◌, drop, map, length}
 use Rattle.def_file.specs.Names.{Variable}
 use Rattle.def_file.specs.Naming.{ArePlaced, no_operations}
 use Rattle.def_file.proofs.Namings.{IsUnderWay}
@@ -8,7 +8,9 @@ use Rattle.def_file.proofs.naming.variables.take_variables.Given as goal
 
 abbrev pub invariant-loop-name : goal.invariant-loop-name
 invariant-loop-name l = record {
-  under_way : (syntax : Syntax) → IsUnderWay (notation_of syntax) l.text (no_operations l.symbols l.initial.variables) (map Variable l.names) (no_operations l.symbols l.variables) (map Variable (drop l.name-index l.names));
+  under_way : (syntax : Syntax) → IsUnderWay (notation_of syntax) l.text (no_operations l.symbols l.initial.listed) (map Variable l.names) (no_operations l.symbols l.listed) (map Variable (drop l.name-index l.names));
   placed : ArePlaced l.text (map Variable (drop l.name-index l.names));
-  few : length l.variables ≤ length l.initial.variables + l.name-index;
+  few : length l.listed.variables ≤ length l.initial.listed.variables + l.name-index;
+  class_names : l.listed.class_names ≡ l.initial.listed.class_names;
+  classes : l.listed.classes ≡ l.initial.listed.classes;
 }

@@ -1,0 +1,159 @@
+-- The members of the classes of a file have no arguments.
+use Rattle.std.proofs.Common.{◌≡◌, ℕ, zero, suc, ◌-◌, ◌<◌, ◌≤◌, List, [], ◌∷◌, ◌++◌, map, length, Some, slice_get, refl, sym, subst}
+use Rattle.std.specs.Prelude.{IsTrue, set, slice_index_or}
+use Rattle.std.specs.List.{AllByRecursion}
+use Rattle.std.proofs.lemmas.Option.{none-some}
+use Rattle.std.proofs.lemmas.List.Elements.{Contains-append_left}
+use Rattle.eq_base.specs.ClassLists.{members_of, with_member}
+use Rattle.eq_base.specs.Meeting.{in_symbol_class, same_head, in_class_of}
+use Rattle.eq_base.specs.ReadHead.{ReadHead}
+use Rattle.eq_base.specs.declared.head.Head.{Head}
+use Rattle.eq_base.specs.declared.head.Head.TheVariants as head
+use Rattle.eq_base.proofs.ClassMembers.{same_head_decides, listed_class}
+use Rattle.eq_base.proofs.Lists.{all_map, all_push, all_contained}
+use Rattle.term_lex.specs.declared.token.Token.{Token}
+use Rattle.symbol_table.specs.Table.{Table, symbols_of, IsDeclared, Declares, AddsClass}
+use Rattle.symbol_table.specs.Reading.{read_head, read_classes}
+use Rattle.written_terms.specs.Notation.{Notation}
+use Rattle.def_file.specs.AsRead.{ReadDefinitions}
+use Rattle.def_file.specs.Names.{Place, Symbol, Class, NewClass, Member, Variable, Term, Qualified, ClassOf, Operation, Known, nothing_known, places_of, MeansMember, Takes, TakesAll}
+use Rattle.def_file.specs.Definitions.{Says}
+use Rattle.qualifiers.proofs.MappedEquations.{all_mapped, all_unmapped}
+use Rattle.ei_program.proofs.Meanings.{arity_in, listed_arity}
+
+-- ---- the elements of a list
+
+-- an element keeps its place where more stand behind it
+place_kept : {X : Type 0} (xs ys : List X) (i : ℕ) (x : X) → slice_get xs i ≡ Some x → slice_get (xs ++ ys) i ≡ Some x
+place_kept [] ys i x at = absurd (none-some x at)
+place_kept (y ∷ xs) ys zero x at = at
+place_kept (y ∷ xs) ys (suc i) x at = place_kept xs ys i x at
+
+-- what holds of each element, and of one that is written among them
+all_set : {X : Type 0} (P : X → Type 0) (xs : List X) (n : ℕ) (x : X) → AllByRecursion P xs → P x → AllByRecursion P (set xs n x)
+all_set P [] n x all here = tt
+all_set P (y ∷ xs) zero x all here = (here, all.1)
+all_set P (y ∷ xs) (suc n) x all here = (all.0, all_set P xs n x all.1 here)
+
+-- what holds of each element, and of what stands past the last
+all_or : {X : Type 0} (P : X → Type 0) (xs : List X) (n : ℕ) (d : X) → AllByRecursion P xs → P d → P (slice_index_or xs n d)
+all_or P [] n d all past = past
+all_or P (x ∷ xs) zero d all past = all.0
+all_or P (x ∷ xs) (suc n) d all past = all_or P xs n d all.1 past
+
+-- ---- what a table declares stays declared
+
+-- the other table declares what the one does
+abbrev Grows : Table → Table → Type 0
+Grows old new = (name : List ℕ) (number arity : ℕ) → IsDeclared old name number arity → IsDeclared new name number arity
+
+-- with one more symbol
+grows_symbol : (old new : Table) (name : List ℕ) (arity : _) (number : ℕ) → Declares old new name arity number → Grows old new
+grows_symbol old new name arity number d = subst (Grows old) (sym d.added)
+    (λ other place args is. record { listed = place_kept (symbols_of old) _ place _ is.listed; known = is.known })
+
+-- with one more class
+grows_class : (old new : Table) (name : List ℕ) → AddsClass old new name → Grows old new
+grows_class old new name a = subst (Grows old) (sym a.added)
+    (λ other place args is. record { listed = is.listed; known = λ below. Contains-append_left old.included (a.class ∷ []) _ (is.known below) })
+
+-- ---- members without arguments
+
+-- the head has no arguments: a symbol is declared so
+abbrev IsConstant : Table → Head → Type 0
+IsConstant table (head.Symbol s) = (name : List ℕ) × IsDeclared table name s 0
+IsConstant table (head.Numeral i) = Unit {0}
+IsConstant table (head.Atom a) = Unit {0}
+IsConstant table (head.Text t) = Unit {0}
+
+-- each member of the classes has none
+abbrev AreConstants : Table → List (List Head) → Type 0
+AreConstants table classes = AllByRecursion (λ (heads : List Head). AllByRecursion (IsConstant table) heads) classes
+
+constant_later : (old new : Table) → Grows old new → (h : Head) → IsConstant old h → IsConstant new h
+constant_later old new grows (head.Symbol s) (name, is) = (name, grows name s 0 is)
+constant_later old new grows (head.Numeral i) is = tt
+constant_later old new grows (head.Atom a) is = tt
+constant_later old new grows (head.Text t) is = tt
+
+constants_later : (old new : Table) → Grows old new → (classes : List (List Head)) → AreConstants old classes → AreConstants new classes
+constants_later old new grows classes =
+    all_map (λ heads. AllByRecursion (IsConstant old) heads) (λ heads. AllByRecursion (IsConstant new) heads) classes
+    (λ heads. all_map (IsConstant old) (IsConstant new) heads (constant_later old new grows))
+
+-- a member stands for a head without arguments
+member_constant : (text : List ℕ) (table : Table) (member : Token) (h : Head) → MeansMember text table member h → IsConstant table h
+member_constant text table member (head.Symbol s) (named, is) = (_, is)
+member_constant text table member (head.Numeral i) means = tt
+member_constant text table member (head.Atom a) means = tt
+member_constant text table member (head.Text t) means = tt
+
+with_constant : (table : Table) (classes : List (List Head)) (class : ℕ) (h : Head) → AreConstants table classes → IsConstant table h → AreConstants table (with_member classes class h)
+with_constant table classes class h all here =
+    all_set (λ heads. AllByRecursion (IsConstant table) heads) classes (class - 4) _ all
+    (all_push (IsConstant table) (members_of classes class) h (all_or (λ heads. AllByRecursion (IsConstant table) heads) classes (class - 4) [] all tt) here)
+
+-- ---- what is known
+
+-- the members of the classes that are known have none
+abbrev HasConstants : Known → Type 0
+HasConstants k = AreConstants k.table k.classes
+
+module _ (notation : Notation) (text : List ℕ) where
+  constants_taken : (p : Place) (old new : Known) → Takes notation text old p new → HasConstants old → HasConstants new
+  constants_taken (Symbol name arity) old new (number, d, e) all =
+      subst HasConstants (sym e) (constants_later old.table new.table (grows_symbol old.table new.table _ _ number d) old.classes all)
+  constants_taken (Class name) old new (a, e) all =
+      subst HasConstants (sym e) (constants_later old.table new.table (grows_class old.table new.table _ a) old.classes all)
+  constants_taken (NewClass name) old new (fresh, few, e) all =
+      subst HasConstants (sym e) (all_push (λ heads. AllByRecursion (IsConstant old.table) heads) old.classes [] all tt)
+  constants_taken (Member class member) old new (h, means, fresh, few, e) all =
+      subst HasConstants (sym e) (with_constant old.table old.classes class h all (member_constant text old.table member h means))
+  constants_taken (Variable name) old new (a, e) all = subst HasConstants (sym e) all
+  constants_taken (Term byte) old new (pattern, end, reads, e) all = subst HasConstants (sym e) all
+  constants_taken (Qualified before name) old new (has, fresh, e) all = subst HasConstants (sym e) all
+  constants_taken (ClassOf name) old new (has, e) all = subst HasConstants (sym e) all
+  constants_taken (Operation name) old new (op, named, fresh, needs, e) all = subst HasConstants (sym e) all
+
+  all_constants_taken : (ps : List Place) (old new : Known) → TakesAll notation text old ps new → HasConstants old → HasConstants new
+  all_constants_taken [] old new e all = subst HasConstants (sym e) all
+  all_constants_taken (p ∷ ps) old new (next, t, ts) all = all_constants_taken ps next new ts (constants_taken p old next t all)
+
+-- ---- as they are read
+
+-- a head of these classes has no arguments by the table
+abbrev pub HaveNoArguments : Table → List (List ReadHead) → Type 0
+HaveNoArguments names classes = AllByRecursion (λ (heads : List ReadHead). AllByRecursion (λ (h : ReadHead). arity_in names h ≡ 0) heads) classes
+
+constant_read : (table : Table) (h : Head) → IsConstant table h → arity_in table (read_head table h) ≡ 0
+constant_read table (head.Symbol s) (name, is) = sym (listed_arity table name 0 s is)
+constant_read table (head.Numeral i) is = refl
+constant_read table (head.Atom a) is = refl
+constant_read table (head.Text t) is = refl
+
+-- the members of the classes that a text says have no arguments
+pub members_constant : (notation : Notation) (text : List ℕ) (d : ReadDefinitions) → Says notation text d → HaveNoArguments d.names d.classes
+members_constant notation text d says =
+    let table = says.known.table in
+    let all : HasConstants says.known = all_constants_taken notation text (places_of says.file) nothing_known says.known says.names tt in
+    let read : HaveNoArguments table (read_classes table says.known.classes) =
+    all_mapped (λ (heads : List Head). AllByRecursion (IsConstant table) heads) (λ (heads : List ReadHead). AllByRecursion (λ (h : ReadHead). arity_in table h ≡ 0) heads)
+    (λ (heads : List Head). map (read_head table) heads)
+    (λ heads. all_mapped (IsConstant table) (λ (h : ReadHead). arity_in table h ≡ 0) (read_head table) (constant_read table) heads)
+    says.known.classes all in
+    subst (λ (names : Table). HaveNoArguments names d.classes) (sym says.declared)
+    (subst (HaveNoArguments table) (sym says.classes) read)
+
+-- so have the heads that a class of the file lists, whatever numbers they have
+pub listed_constant : (names table : Table) (classes : List (List Head)) → HaveNoArguments names (read_classes table classes)
+    → (class : ℕ) (h : Head) → 4 ≤ class → IsTrue (in_class_of classes class h) → arity_in names (read_head table h) ≡ 0
+listed_constant names table classes all class h past is =
+    let NoArguments : Head → Type 0 = λ g. arity_in names (read_head table g) ≡ 0 in
+    let numbered : AllByRecursion (λ (heads : List Head). AllByRecursion NoArguments heads) classes =
+    all_unmapped (λ (heads : List Head). AllByRecursion NoArguments heads) (λ (heads : List ReadHead). AllByRecursion (λ (g : ReadHead). arity_in names g ≡ 0) heads)
+    (λ (heads : List Head). map (read_head table) heads)
+    (λ heads. all_unmapped NoArguments (λ (g : ReadHead). arity_in names g ≡ 0) (read_head table) (λ g none. none) heads)
+    classes all in
+    all_contained NoArguments (members_of classes class) h
+    (all_or (λ (heads : List Head). AllByRecursion NoArguments heads) classes (class - 4) [] numbered tt)
+    ((listed_class same_head same_head_decides in_symbol_class classes class h past).0 is)
