@@ -15,4 +15,4 @@ mod Reading
 mod Built
 mod Terms
 mod Patterns
-mod Clashing
+pub mod Clashing

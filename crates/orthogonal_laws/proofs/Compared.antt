@@ -7,6 +7,7 @@ use Rattle.eq_base.specs.Pattern.{PatternCell, fixed, variable, restricted, Meet
 use Rattle.eq_base.specs.ClassLists.{members_of}
 use Rattle.eq_base.specs.Meeting.{in_symbol_class, same_head, in_class_of}
 use Rattle.eq_base.proofs.ClassMembers.{same_head_decides, symbol_class, listed_class}
+use Rattle.eq_base.proofs.Clashing.{one_class, some_head}
 use Rattle.eq_base.specs.Testing.{IsTestedAt, IsPattern, ArePatterns}
 use Rattle.eq_base.specs.declared.head.Head.{Head}
 use Rattle.eq_base.specs.declared.head.Head.TheVariants.{Symbol, Numeral, Atom, Text}
@@ -18,28 +19,6 @@ use Rattle.orthogonal_laws.proofs.Comparing.{TestedIn, nothing_in}
 use Rattle.orthogonal_laws.proofs.Translation.{first_true}
 use Rattle.orthogonal_laws.proofs.Members.{In, in_first, in_next, contains-in, in-contains}
 use Rattle.orthogonal_laws.proofs.Outcomes.{Outcome, clashes, common, mismatches, outcome}
-
--- the symbol class of a head
-class_of : Head → ℕ
-class_of (Symbol s) = 2
-class_of (Numeral i) = 0
-class_of (Atom a) = 1
-class_of (Text t) = 3
-
-class_is : (class : ℕ) (h : Head) → IsTrue (in_symbol_class class h) → class ≡ class_of h
-unfolding class_of
-class_is class (Symbol s) e = eqb-true class 2 (first_true (nat_eq class 2) _ e)
-class_is class (Numeral i) e = eqb-true class 0 e
-class_is class (Atom a) e = eqb-true class 1 e
-class_is class (Text t) e = eqb-true class 3 e
-
--- each symbol class has a head
-some_head : (class : ℕ) → class < 4 → (h : Head) × IsTrue (in_symbol_class class h)
-some_head zero lt = (Numeral (pos 0), refl)
-some_head (suc zero) lt = (Atom 0, refl)
-some_head (suc (suc zero)) lt = (Symbol 0, refl)
-some_head (suc (suc (suc zero))) lt = (Text 0, refl)
-some_head (suc (suc (suc (suc n)))) lt = absurd (omega arith)
 
 -- a head of the list passes the test, or none does
 some_passes : (f : Head → Bool) (hs : List Head) → ((h : Head) × In hs h × IsTrue (f h)) ⊎ ((h : Head) → In hs h → IsTrue (f h) → ⊥)
@@ -87,7 +66,7 @@ module _ (classes : List (List Head)) where
   symbols_share one other lt lt' =
       elim (same_number one other) [
         | inl e ↦ (let s = some_head one lt in inr (s.0, as_symbols one s.0 lt ∙ s.1, as_symbols other s.0 lt' ∙ ap (λ k. in_symbol_class k s.0) (sym e) ∙ s.1))
-        | inr n ↦ inl (λ h e e'. n (class_is one h (sym (as_symbols one h lt) ∙ e) ∙ sym (class_is other h (sym (as_symbols other h lt') ∙ e'))))
+        | inr n ↦ inl (λ h e e'. n (one_class one other h (sym (as_symbols one h lt) ∙ e) (sym (as_symbols other h lt') ∙ e')))
       ]
 
   -- two classes have a head in common, or none

@@ -14,6 +14,7 @@ use Rattle.eq_base.specs.Sharing.{ShareHead}
 use Rattle.eq_base.specs.declared.head.Head.{Head}
 use Rattle.eq_base.specs.declared.head.Head.TheVariants.{Symbol, Numeral, Atom, Text}
 use Rattle.eq_base.proofs.ClassMembers.{same_head_decides, symbol_class, listed_class}
+use Rattle.eq_base.proofs.Clashing.{one_class, some_head}
 use Rattle.eq_base.proofs.Heads.{some_same}
 use Rattle.eq_base.proofs.Instances.{Fits, FitAll, fits_from_instance, instance_from_fits}
 use Rattle.eq_base.proofs.Lists.{all_front, all_back}
@@ -82,21 +83,6 @@ passes_or_not test (g ∷ hs) =
     by_place : (h : Head) (n : ℕ) → n < suc (length hs) → get_or (g ∷ hs) n h ≡ h → IsTrue (test h) → (IsTrue (test g) → ⊥) → ((h : Head) → Contains hs h → IsTrue (test h) → ⊥) → ⊥
     by_place h zero lt e passes fails none = fails (subst (λ k. IsTrue (test k)) (sym e) passes)
     by_place h (suc n) lt e passes fails none = none h (n, omega arith, e) passes
-
--- a head is in one symbol class alone
-one_class : (class other : ℕ) (h : Head) → IsTrue (in_symbol_class class h) → IsTrue (in_symbol_class other h) → class ≡ other
-one_class class other (Symbol s) a b = grind (arith, nat_tests)
-one_class class other (Numeral n) a b = grind (arith, nat_tests)
-one_class class other (Atom n) a b = grind (arith, nat_tests)
-one_class class other (Text n) a b = grind (arith, nat_tests)
-
--- each symbol class has a head
-some_head : (class : ℕ) → class < 4 → (h : Head) × IsTrue (in_symbol_class class h)
-some_head zero lt = (Numeral (pos 0), refl)
-some_head (suc zero) lt = (Atom 0, refl)
-some_head (suc (suc zero)) lt = (Symbol 0, refl)
-some_head (suc (suc (suc zero))) lt = (Text 0, refl)
-some_head (suc (suc (suc (suc n)))) lt = absurd (omega arith)
 
 module _ (classes : List (List Head)) where
   abbrev in_class : Classes Head
