@@ -1,10 +1,10 @@
 -- The alternatives that are chosen in the choice with a number.
-use Rattle.std.proofs.Common.{◌≡◌, ℕ, zero, suc, ◌+◌, ◌*◌, ◌/◌, ◌%◌, ◌<◌, ◌≤◌, ◌⊎◌, false, List, [], ◌∷◌, length, map, drop, get_or, Some, None, refl, sym, ap, ◌∙◌, subst, arith, eq-eqb, add-one, ⊎_elim}
+use Rattle.std.proofs.Common.{◌≡◌, ℕ, zero, suc, ◌+◌, ◌*◌, ◌/◌, ◌%◌, ◌<◌, ◌≤◌, ◌⊎◌, false, List, [], ◌∷◌, ◌++◌, length, map, drop, get_or, Some, None, refl, sym, ap, ◌∙◌, subst, arith, eq-eqb, add-one, below_more, length-append, ⊎_elim}
 use Rattle.std.specs.Prelude.{Contains, nat_eq, slice_get, slice_index}
 use Rattle.std.specs.List.{AllByRecursion, IsDistinct}
 use Rattle.std.proofs.Math.Nat.{mod-eq_of_lt, mod-lt, mul-add-div_right, mul-add-mod_self_right, div-add-mod'}
 use Rattle.std.proofs.lemmas.Bool.{cases_lt}
-use Rattle.std.proofs.lemmas.List.{length-map}
+use Rattle.std.proofs.lemmas.List.{get_or_append_left, get_or_push}
 use Rattle.std.proofs.lemmas.Option.{slice_get_within, slice_get-get_or, get_or_from_slice_get}
 use Rattle.eq_base.specs.Tree.{Tree}
 use Rattle.eq_base.specs.Pattern.{PatternCell}
@@ -22,6 +22,15 @@ use Rattle.qualifiers.proofs.Replacements.{option_cases}
 use Rattle.qualifiers.proofs.Chosen.{IsChoiceOf, is_choice, chosen_offered}
 use Rattle.qualifiers.proofs.Numbers.{ways, ways_of, length-choices, some_ways, several_ways, next_block, index_within, rest_within, get_more, skip_none}
 use Rattle.qualifiers.proofs.Targets.{some_at, listed_at, names_held}
+
+-- one number more at the end of a list, which has these numbers at its places
+pub numbers_more : (f : ℕ → ℕ) (xs : List ℕ) (y i : ℕ) (ys : List ℕ) → ys ≡ xs ++ y ∷ [] → length xs ≡ i → ((k : ℕ) → k < i → slice_index xs k ≡ f k) → y ≡ f i → (length ys ≡ i + 1) × ((k : ℕ) → k < i + 1 → slice_index ys k ≡ f k)
+numbers_more f xs y i ys is len each here = (
+  omega (arith, ap length is, len, length-append xs (y ∷ [])),
+  below_more _ i
+  (λ k lt. let below : k < length xs = omega (arith, len, lt) in ap (λ l. get_or l k 0) is ∙ get_or_append_left xs (y ∷ []) 0 k below ∙ each k lt)
+  (ap (λ l. get_or l i 0) is ∙ get_or_push xs y 0 i len ∙ here),
+)
 
 -- a digit of a number in mixed bases is one of the rest that is left of higher ones
 digit-rest : (n m o b : ℕ) → 0 < b → n % (m * (o * b)) / b % o ≡ n / b % o
@@ -113,6 +122,10 @@ module _ (qs : List Qualifier) (number : ℕ) (lt : number < length (choices_of 
       (λ held listed named.
       let (q, (i, below, is), same) = map_contains qualifier_held qs held listed in
       ap (λ (r : QualifierOf Head). length r.choices) (sym same) ∙ none i q (slice_get-get_or qs i q below ∙ ap Some is) (ap (λ (r : QualifierOf Head). r.variable) same ∙ named))
+
+  -- there is a choice of the qualifiers behind a place
+  pub block_some : (blocks : List ℕ) → AreBlocks qs blocks → (j : ℕ) → j < length qs → 0 < slice_index blocks j
+  block_some blocks are j below = omega (arith, are.each j below, length-choices (drop (j + 1) (qualifiers_held qs)), some_ways (drop (j + 1) (qualifiers_held qs)))
 
   -- the alternative of the place for which another stands
   pub some_by_place : IsDistinct nat_eq (map variable_of qs) → (blocks : List ℕ) → AreBlocks qs blocks → (i j : ℕ) (s : StandsFor qs i j) → 0 < length s.first.choices → (a : Tree (PatternCell Head)) → slice_get s.second.choices (number / slice_index blocks j % length s.second.choices) ≡ Some a → (z : ℕ) × Stands (choice_with qs number) s.first.variable z × (chosen (choice_with qs number) z ≡ Some a)

@@ -18,7 +18,7 @@ use Rattle.def_file.specs.AsRead.{QualifierOf}
 use Rattle.qualifiers.specs.Replacing.{Replacement, Choice, Makes, chosen, replaced_or}
 use Rattle.qualifiers.specs.Choices.{choices_of}
 use Rattle.qualifiers.specs.Held.{qualifier_held, qualifiers_held}
-use Rattle.qualifiers.specs.Leading.{variable_of}
+use Rattle.qualifiers.specs.Leading.{ArePatterns, variable_of}
 use Rattle.qualifiers.specs.Standing.{Stands, itself, on, StandsFor, AreTargets}
 use Rattle.qualifiers.proofs.Members.{contains_here, contains_map}
 use Rattle.qualifiers.proofs.Chosen.{HasChosen, IsChoiceOf, all_chosen, is_choice}
@@ -51,6 +51,11 @@ lone_variable (node (restricted x class) ps) y is e = cc
 pub names_held : (qs : List Qualifier) → map (λ (q : QualifierOf Head). q.variable) (qualifiers_held qs) ≡ map variable_of qs
 names_held [] = refl
 names_held (q ∷ qs) = ap (λ l. q.variable ∷ l) (names_held qs)
+
+-- the alternatives of qualifiers are patterns
+pub patterns_held : (qs : List Qualifier) → AllByRecursion (λ (q : QualifierOf Head). AllByRecursion IsPattern q.choices) (qualifiers_held qs) → ArePatterns qs
+patterns_held [] all = tt
+patterns_held (q ∷ qs) all = (all.0, patterns_held qs all.1)
 
 module _ {H : Type 0} where
   -- the only alternative is chosen
