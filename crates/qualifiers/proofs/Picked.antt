@@ -4,7 +4,7 @@ use Rattle.std.specs.Prelude.{Contains, nat_eq, slice_get, slice_index}
 use Rattle.std.specs.List.{AllByRecursion, IsDistinct}
 use Rattle.std.proofs.Math.Nat.{mod-eq_of_lt, mod-lt, mul-add-div_right, mul-add-mod_self_right, div-add-mod'}
 use Rattle.std.proofs.lemmas.Bool.{cases_lt}
-use Rattle.std.proofs.lemmas.List.{get_or_append_left, get_or_push}
+use Rattle.std.proofs.lemmas.List.{get_or_append_left, get_or_push, get_or_default}
 use Rattle.std.proofs.lemmas.Option.{slice_get_within, slice_get-get_or, get_or_from_slice_get}
 use Rattle.eq_base.specs.Tree.{Tree}
 use Rattle.eq_base.specs.Pattern.{PatternCell}
@@ -114,7 +114,7 @@ module _ (qs : List Qualifier) (number : ℕ) (lt : number < length (choices_of 
   choice_with_is = slice_get-get_or (choices_of (qualifiers_held qs)) number [] lt
 
   pub choice_with_listed : Contains (choices_of (qualifiers_held qs)) (choice_with qs number)
-  choice_with_listed = (number, lt, refl)
+  choice_with_listed = (number, lt, get_or_default (choices_of (qualifiers_held qs)) number (choice_with qs number) [] lt)
 
   pub none_by_place : (x : ℕ) → ((i : ℕ) (q : Qualifier) → slice_get qs i ≡ Some q → q.variable ≡ x → length q.choices ≡ 0) → chosen (choice_with qs number) x ≡ None
   none_by_place x none =

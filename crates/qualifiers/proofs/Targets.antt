@@ -3,7 +3,7 @@ use Rattle.std.proofs.Common.{◌≡◌, ℕ, zero, suc, ◌+◌, ◌<◌, List,
 use Rattle.std.specs.Prelude.{Contains, nat_eq, slice_get, slice_index, All}
 use Rattle.std.specs.List.{AllByRecursion, IsDistinct}
 use Rattle.std.proofs.lemmas.Bool.{cases_eq}
-use Rattle.std.proofs.lemmas.List.{get_or-set_same, get_or-set_other}
+use Rattle.std.proofs.lemmas.List.{get_or-set_same, get_or-set_other, length-set}
 use Rattle.std.proofs.lemmas.List.Elements.{All-from_recursion}
 use Rattle.std.proofs.lemmas.Option.{slice_get_within, get_or_from_slice_get, slice_get-get_or}
 use Rattle.eq_base.specs.Tree.{Tree, node, empty, nth_subtree}
@@ -110,7 +110,7 @@ module _ (qs : List Qualifier) where
 
   pub targets-set : (targets : List ℕ) (i end : ℕ) → AreTargets qs targets → StandsFor qs i end → AreTargets qs (set targets i end)
   targets-set targets i end are s = record {
-    len = search (rules, are.len);
+    len = length-set targets i end ∙ are.len;
     each = λ k lt.
         ⊎_elim
         (λ same. subst (λ j. StandsFor qs k j) (sym (ap (λ j. get_or (set targets i end) j 0) same ∙ get_or-set_same targets i end 0 (omega (arith, are.len, slice_get_within qs i s.first s.at_place)))) (subst (λ j. StandsFor qs j end) (sym same) s))

@@ -1,5 +1,5 @@
 // Variables that stand for others: those whose only alternative is another variable.
-ghost use Rattle.std.specs.Prelude.{◌≡◌, ◌<◌, ℕ, List, length, map, nat_eq, slice_index, All, IfOk, IfSome};
+ghost use Rattle.std.specs.Prelude.{◌≡◌, ◌<◌, ℕ, List, [], length, map, nat_eq, slice_index, All, IfOk, IfSome};
 ghost use Rattle.std.specs.List.{AllByRecursion, IsDistinct};
 ghost use Rattle.def_file.specs.declared.definitions.Qualifier.{Qualifier as QualifierValue};
 ghost use Rattle.qualifiers.specs.Leading.{ArePatterns, variable_of};
@@ -50,27 +50,27 @@ fn follow(
     requires targets { AreTargets qualifiers.now targets.now }
     requires start { start < length qualifiers.now }
     requires way { way.old.items ≡ [] }
-    ensures { IfOk result (λ end. AllByRecursion (λ i. StandsFor qualifiers.now i end) way.new.items) }
+    ensures { IfOk result (λ last. AllByRecursion (λ i. StandsFor qualifiers.now i last) way.new.items) }
 {
-    let mut end = start;
+    let mut last = start;
     for _ in 0..qualifiers.len() {
-        way.push(end)?;
-        let Some(next) = next_place(qualifiers, places, end) else {
-            return Ok(end);
+        way.push(last)?;
+        let Some(next) = next_place(qualifiers, places, last) else {
+            return Ok(last);
         };
-        end = targets[next];
+        last = targets[next];
     }
-    Ok(end)
+    Ok(last)
 }
 
 /// Lets each place on the way stand for the last one.
-fn lead(targets: &mut [usize], way: &[usize], end: usize)
+fn lead(targets: &mut [usize], way: &[usize], last: usize)
     requires { All (λ i. i < length targets.old) way.now }
     ensures { (qs : List QualifierValue) → AreTargets qs targets.old
-        → AllByRecursion (λ i. StandsFor qs i end) way.now → AreTargets qs targets.new }
+        → AllByRecursion (λ i. StandsFor qs i last) way.now → AreTargets qs targets.new }
 {
     for place in way {
-        targets[*place] = end;
+        targets[*place] = last;
     }
 }
 
@@ -100,8 +100,8 @@ pub fn targets_of(
     let mut targets = numbers(alloc, qualifiers.len())?;
     for start in 0..qualifiers.len() {
         let mut way = Vec::new(alloc);
-        let end = follow(qualifiers, places, &targets, start, &mut way)?;
-        lead(&mut targets, &way, end);
+        let last = follow(qualifiers, places, &targets, start, &mut way)?;
+        lead(&mut targets, &way, last);
     }
     Ok(targets)
 }

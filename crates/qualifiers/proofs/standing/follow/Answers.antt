@@ -16,12 +16,12 @@ bounds-targets-next c = omega (arith, c.requires.targets.len, slice_get_within c
 pub returns-in_default : goal.returns-in_default
 returns-in_default c =
     let qs = c.args.qualifiers.now in
-    subst (AllByRecursion (λ i. StandsFor qs i c.loop.end)) (sym c.in_ok-push.ensures.items) (all_push (λ i. StandsFor qs i c.loop.end) c.loop.way.items c.loop.end c.loop.invariant.way (stands_for_itself qs c.loop.end c.loop.invariant.within))
+    subst (AllByRecursion (λ i. StandsFor qs i c.loop.last)) (sym c.in_ok-push.ensures.items) (all_push (λ i. StandsFor qs i c.loop.last) c.loop.way.items c.loop.last c.loop.invariant.way (stands_for_itself qs c.loop.last c.loop.invariant.within))
 
 pub loop-preserved : goal.loop-preserved
 loop-preserved c =
     let qs = c.args.qualifiers.now in
-    let here = c.loop.end in
+    let here = c.loop.last in
     let next = c.in-Some.next in
     let end = slice_index c.args.targets.now next in
     let lt : next < length qs = slice_get_within qs next c.in-Some.ensures.second c.in-Some.ensures.at_other in

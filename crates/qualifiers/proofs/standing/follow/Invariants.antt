@@ -5,6 +5,6 @@ use Rattle.qualifiers.proofs.standing.follow.Given as goal
 
 abbrev pub invariant-loop : goal.invariant-loop
 invariant-loop l = record {
-  within : l.end < length l.qualifiers;
-  way : AllByRecursion (λ i. StandsFor l.qualifiers i l.end) l.way.items;
+  within : l.last < length l.qualifiers;
+  way : AllByRecursion (λ i. StandsFor l.qualifiers i l.last) l.way.items;
 }

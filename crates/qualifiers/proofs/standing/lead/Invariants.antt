@@ -5,4 +5,4 @@ use Rattle.qualifiers.specs.Standing.{StandsFor, AreTargets}
 use Rattle.qualifiers.proofs.standing.lead.Given as goal
 
 abbrev pub invariant-loop-place : goal.invariant-loop-place
-invariant-loop-place l = (qs : List Qualifier) → AreTargets qs l.initial.targets → AllByRecursion (λ i. StandsFor qs i l.end) l.way → AreTargets qs l.targets
+invariant-loop-place l = (qs : List Qualifier) → AreTargets qs l.initial.targets → AllByRecursion (λ i. StandsFor qs i l.last) l.way → AreTargets qs l.targets
