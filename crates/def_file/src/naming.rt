@@ -23,6 +23,7 @@ mod members;
 mod operations;
 mod symbols;
 mod terms;
+mod variable_classes;
 mod variables;
 
 use crate::class_names::ClassNames;

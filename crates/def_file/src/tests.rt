@@ -361,9 +361,9 @@ fn many_equations(rt: HostRuntime) -> Result<(), Fail> {
 fn many_classes(rt: HostRuntime) -> Result<(), Fail> {
     let mut text = Vec::new(rt.alloc());
     text.extend_from_slice(b"Symbols a: 0. Classes ")?;
-    for i in 0..250 {
+    for i in 0..250_u32 {
         text.extend_from_slice(b"k")?;
-        push_numeral(&mut text, i)?;
+        push_numeral(&mut text, i128::from(i))?;
         text.extend_from_slice(b": a; ")?;
     }
     let mut more = text.clone()?;
@@ -385,9 +385,9 @@ fn many_classes(rt: HostRuntime) -> Result<(), Fail> {
 fn many_members(rt: HostRuntime) -> Result<(), Fail> {
     let mut text = Vec::new(rt.alloc());
     text.extend_from_slice(b"Symbols include integer_numerals. Classes k: 0")?;
-    for i in 1..4096 {
+    for i in 1..4096_u32 {
         text.extend_from_slice(b", ")?;
-        push_numeral(&mut text, i)?;
+        push_numeral(&mut text, i128::from(i))?;
     }
     let mut more = text.clone()?;
     text.extend_from_slice(b". For all: .")?;

@@ -50,6 +50,10 @@ fn equations(rt: HostRuntime) -> Result<(), Fail> {
         b"Symbols add: 2; divide: 2; modulo: 2; fst: 2; include integer_numerals. For all x, y: fst(x, y) = x; include addint, divint, modint.".as_slice();
     let nested =
         b"Symbols a: 0; b: 0; s: 1; f: 2. For all x, y, z: f(x, z) = s(x) where x is either s(y) or s(s(y)) end or, y is either a or b end or end where.".as_slice();
+    let chain =
+        b"Symbols a: 0; s: 1; f: 1. For all x, y, z: f(x) = s(x) where x is either y end or, y is either z end or, z is either a or s(a) end or end where.".as_slice();
+    let backwards =
+        b"Symbols a: 0; s: 1; f: 1. For all x, y, z: f(x) = s(x) where z is either a or s(a) end or, y is either z end or, x is either y end or end where.".as_slice();
     for (text, number, expected) in [
         (either, 0, (2, 1, 1, 2, 2)),
         (either, 1, (2, 1, 2, 3, 3)),
@@ -60,6 +64,8 @@ fn equations(rt: HostRuntime) -> Result<(), Fail> {
         (arithmetic, 3, (4, 2, 3, 3, 0)),
         (nested, 1, (4, 1, 2, 4, 3)),
         (nested, 2, (4, 1, 3, 5, 4)),
+        (chain, 1, (2, 1, 2, 3, 3)),
+        (backwards, 1, (2, 1, 2, 3, 3)),
     ] {
         assert_eq!(rt; told(rt.alloc(), text, number), Ok(expected));
     }

@@ -2,56 +2,48 @@
 ghost use Rattle.std.specs.Prelude.{◌≡◌, map, IfOk};
 ghost use Rattle.eq_base.specs.Tree.{map_heads};
 ghost use Rattle.eq_base.specs.Cells.{kind_of, arity_in, tree_cell, CellTakesArguments};
-ghost use Rattle.def_file.specs.Definitions.{class_of, classed};
+ghost use Rattle.def_file.specs.Definitions.{classed};
 ghost use Rattle.def_file.specs.Taking.{classes_in, choices_of, qualifier_of, written_of};
 
 use super::conditions::{Choice, TakenCondition};
 use super::items::TakenEquation;
+use super::variable_classes::VariableClasses;
 use crate::definitions::{Choices, Qualifier, Qualifiers, Written};
 use eq_base::{Cell, NoMemory, Pattern, PatternMaker};
 use std::alloc::Global;
 
 /// The variables that are in classes, each with the number of its class.
-fn classes_of(alloc: Global, conditions: &[TakenCondition]) -> Result<Vec<(u32, u8)>, NoMemory>
-    ensures { IfOk result (λ classes. classes.items ≡ classes_in conditions.now) }
+fn classes_of(
+    alloc: Global,
+    conditions: &[TakenCondition],
+) -> Result<VariableClasses, NoMemory>
+    ensures { IfOk result (λ classes. classes ≡ classes_in conditions.now) }
 {
-    let mut classes = Vec::new(alloc);
+    let mut list = Vec::new(alloc);
     for condition in conditions {
         if let Choice::InClass(class) = &condition.choice {
-            classes.push((condition.variable, *class))?;
+            list.push((condition.variable, *class))?;
         }
     }
-    Ok(classes)
-}
-
-/// The class of the variable, if it is in one.
-fn find_class(classes: &[(u32, u8)], variable: u32) -> Option<u8>
-    ensures { result ≡ class_of classes.now variable }
-{
-    for (named, class) in classes {
-        if *named == variable {
-            return Some(*class);
-        }
-    }
-    None
+    VariableClasses::new(alloc, list)
 }
 
 /// The cell, with its variable in its class.
-fn classed_cell(classes: &[(u32, u8)], cell: Cell) -> Cell
+fn classed_cell(classes: &VariableClasses, cell: Cell) -> Cell
     ensures cell { tree_cell result ≡ (classed classes.now (kind_of cell), arity_in cell) }
     ensures taken { CellTakesArguments cell → CellTakesArguments result }
 {
     let Cell::Var(variable) = cell else {
         return cell;
     };
-    match find_class(classes, variable) {
+    match classes.class(variable) {
         Some(class) => Cell::Class(variable, class),
         None => cell,
     }
 }
 
 /// The pattern, with its variables in their classes.
-fn classed(alloc: Global, classes: &[(u32, u8)], pattern: &Pattern) -> Result<Pattern, NoMemory>
+fn classed(alloc: Global, classes: &VariableClasses, pattern: &Pattern) -> Result<Pattern, NoMemory>
     ensures { IfOk result (λ copy. copy ≡ map_heads (classed classes.now) pattern.now) }
 {
     let mut maker = PatternMaker::new(alloc);
@@ -62,7 +54,7 @@ fn classed(alloc: Global, classes: &[(u32, u8)], pattern: &Pattern) -> Result<Pa
 }
 
 /// The side, with its variables in their classes. It is copied only where there are classes.
-fn classed_side(alloc: Global, classes: &[(u32, u8)], pattern: Pattern) -> Result<Pattern, NoMemory>
+fn classed_side(alloc: Global, classes: &VariableClasses, pattern: Pattern) -> Result<Pattern, NoMemory>
     ensures { IfOk result (λ copy. copy ≡ map_heads (classed classes.now) pattern) }
 {
     if classes.is_empty() {
@@ -74,7 +66,7 @@ fn classed_side(alloc: Global, classes: &[(u32, u8)], pattern: Pattern) -> Resul
 /// The patterns, with their variables in their classes.
 fn classed_all(
     alloc: Global,
-    classes: &[(u32, u8)],
+    classes: &VariableClasses,
     patterns: &[Pattern],
 ) -> Result<Vec<Pattern>, NoMemory>
     ensures { IfOk result (λ copies. copies.items ≡ map (map_heads (classed classes.now)) patterns.now) }
@@ -88,7 +80,7 @@ fn classed_all(
 }
 
 /// The alternatives, with their variables in their classes.
-fn choices(alloc: Global, classes: &[(u32, u8)], choice: &Choice) -> Result<Choices, NoMemory>
+fn choices(alloc: Global, classes: &VariableClasses, choice: &Choice) -> Result<Choices, NoMemory>
     ensures { IfOk result (λ choices. choices ≡ choices_of classes.now choice.now) }
 {
     match choice {
@@ -103,7 +95,7 @@ fn choices(alloc: Global, classes: &[(u32, u8)], choice: &Choice) -> Result<Choi
 /// The qualifiers of conditions.
 fn qualifiers(
     alloc: Global,
-    classes: &[(u32, u8)],
+    classes: &VariableClasses,
     conditions: &[TakenCondition],
 ) -> Result<Qualifiers, NoMemory>
     ensures { IfOk result (λ qualifiers. qualifiers ≡ map (qualifier_of classes.now) conditions.now) }

@@ -1,12 +1,12 @@
 // What the variables of an equation may stand for.
-ghost use Rattle.std.specs.Prelude.{◌≡◌, ◌≤◌, ◌↔◌, List, ◌∷◌, ◌++◌, [], length, map, IsTrue, IfOk, Contains, Some, slice_get};
-ghost use Rattle.std.specs.List.{AllByRecursion};
+ghost use Rattle.std.specs.Prelude.{◌≡◌, List, ◌∷◌, ◌++◌, [], map, IfOk, OnOk, Some, slice_get};
 ghost use Rattle.eq_base.specs.declared.rules.Op.{Op as Operator};
 ghost use Rattle.symbol_table.specs.Table.{Table, Keeps};
 ghost use Rattle.term_lex.specs.Values.{IsTokenOf};
+ghost use Rattle.term_lex.specs.declared.token.Token.{Token as TokenValue};
 ghost use Rattle.def_file.specs.Views.{condition, restriction};
 ghost use Rattle.def_file.specs.Names.{Qualified, ClassOf, token_bytes, restriction_places, condition_places};
-ghost use Rattle.def_file.specs.Naming.{ArePlaced, IsPlaced, IsTaking, knowing, qualified_names};
+ghost use Rattle.def_file.specs.Naming.{ArePlaced, IsPlaced, IsTaking, knowing};
 ghost use Rattle.def_file.specs.Definitions.{NamesClass};
 ghost use Rattle.def_file.specs.Pairs.{AreRelated};
 ghost use Rattle.def_file.specs.Taking.{Lasts, TakesChoice, TakesCondition};
@@ -21,7 +21,7 @@ use crate::error::FileError;
 use crate::tree::{Condition, Restriction};
 use eq_base::Pattern;
 use std::alloc::Global;
-use symbol_table::{Symbols, class_named};
+use symbol_table::{Interned, Symbols, class_named};
 use term_lex::{FaultKind, Syntax, Token};
 
 /// What a qualified variable may stand for.
@@ -44,47 +44,30 @@ pub struct TakenCondition {
     pub byte: usize,
 }
 
-fn is_same(word: &[u8], other: &[u8]) -> bool
-    ensures { IsTrue result ↔ (word.now ≡ other.now) }
-{
-    word == other
-}
-
-/// Whether the name stands before `is` in one of the conditions.
-fn is_qualified(text: &[u8], conditions: &[Condition], name: Token) -> bool
-    requires placed { AllByRecursion (IsTokenOf text.now) (qualified_names conditions.now) }
-    requires name { IsTokenOf text.now name }
-    ensures { IsTrue result
-        ↔ Contains (map (token_bytes text.now) (qualified_names conditions.now)) (token_bytes text.now name) }
-{
-    for condition in conditions {
-        if is_same(bytes_of(text, condition.variable), bytes_of(text, name)) {
-            return true;
-        }
-    }
-    false
-}
-
-/// The number of the variable before `is`, behind those conditions of the equation.
+/// The number of the variable before `is`, behind the names that are qualified so far. It is qualified then.
 fn take_qualified(
     text: &[u8],
-    before: &[Condition],
     name: Token,
     listed: &Listed,
+    qualified: &mut Interned,
 ) -> Result<u32, FileError>
-    requires placed { IsPlaced text.now (Qualified (qualified_names before.now) name) }
+    requires name { IsTokenOf text.now name }
     ensures taking { (syntax : SyntaxValue) (table : Table) (operations : List Operator)
+        (before : List TokenValue) → qualified.old ≡ map (token_bytes text.now) before
         → IsTaking (notation_of syntax) text.now (knowing table listed.now operations)
-        (Qualified (qualified_names before.now) name ∷ []) (knowing table listed.now operations) result }
+        (Qualified before name ∷ []) (knowing table listed.now operations) result }
     ensures variable { IfOk result
         (λ x. slice_get listed.now.variables x ≡ Some (token_bytes text.now name)) }
+    ensures qualified { OnOk result (qualified.new ≡ qualified.old ++ token_bytes text.now name ∷ []) }
 {
-    let Some(variable) = listed.variables.find(bytes_of(text, name)) else {
+    let bytes = bytes_of(text, name);
+    let Some(variable) = listed.variables.find(bytes) else {
         return Err(refused(FaultKind::QualifiedUnknown, name));
     };
-    if is_qualified(text, before, name) {
+    if qualified.find(bytes).is_some() {
         return Err(refused(FaultKind::QualifiedTwice, name));
     }
+    qualified.intern(bytes)?;
     Ok(variable)
 }
 
@@ -145,30 +128,32 @@ fn take_restriction(
     }
 }
 
-/// A condition, behind those conditions of the equation.
+/// A condition, behind the names that are qualified so far.
 fn take_condition(
     alloc: Global,
     text: &[u8],
     syntax: Syntax,
-    before: &[Condition],
     condition: &Condition,
     symbols: &mut Symbols,
     listed: &Listed,
+    qualified: &mut Interned,
 ) -> Result<TakenCondition, FileError>
-    requires placed { ArePlaced text.now
-        (Qualified (qualified_names before.now) condition.now.variable
-        ∷ restriction_places (restriction condition.now.restriction)) }
+    requires name { IsTokenOf text.now condition.now.variable }
+    requires placed { ArePlaced text.now (restriction_places (restriction condition.now.restriction)) }
     ensures taking { (operations : List Operator)
+        (before : List TokenValue) → qualified.old ≡ map (token_bytes text.now) before
         → IsTaking (notation_of syntax) text.now (knowing symbols.old listed.now operations)
-        (Qualified (qualified_names before.now) condition.now.variable
+        (Qualified before condition.now.variable
         ∷ restriction_places (restriction condition.now.restriction))
         (knowing symbols.new listed.now operations) result }
     ensures condition { IfOk result
         (λ taken. Lasts (λ known table. TakesCondition (notation_of syntax) text.now known table
         condition.now.variable (restriction condition.now.restriction) taken) symbols.new listed.now) }
     ensures keeps { Keeps symbols.old symbols.new }
+    ensures qualified { OnOk result (qualified.new
+        ≡ qualified.old ++ token_bytes text.now condition.now.variable ∷ []) }
 {
-    let variable = take_qualified(text, before, condition.variable, listed)?;
+    let variable = take_qualified(text, condition.variable, listed, qualified)?;
     let choice = take_restriction(alloc, text, syntax, &condition.restriction, symbols, listed)?;
     Ok(TakenCondition {
         variable,
@@ -177,7 +162,7 @@ fn take_condition(
     })
 }
 
-/// The conditions of an equation.
+/// The conditions of an equation. A name before `is` is looked up in constant time on average.
 pub fn take_conditions(
     alloc: Global,
     text: &[u8],
@@ -198,15 +183,16 @@ pub fn take_conditions(
     ensures keeps { Keeps symbols.old symbols.new }
 {
     let mut taken = Vec::new(alloc);
-    for (i, next) in conditions.iter().enumerate() {
+    let mut qualified = Interned::new(alloc);
+    for next in conditions {
         let condition = take_condition(
             alloc,
             text,
             syntax,
-            &conditions[..i],
             next,
             symbols,
             listed,
+            &mut qualified,
         )?;
         taken.push(condition)?;
     }
