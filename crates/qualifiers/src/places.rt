@@ -10,10 +10,7 @@ use indexmap::IndexMap;
 use std::alloc::Global;
 
 /// The place of each variable's qualifier in the list, if it has one. A look-up takes constant time on average.
-pub fn places_of(
-    alloc: Global,
-    qualifiers: &Qualifiers,
-) -> Result<IndexMap<u32, usize>, NoMemory>
+pub fn places_of(alloc: Global, qualifiers: &Qualifiers) -> Result<IndexMap<u32, usize>, NoMemory>
     requires { IsDistinct nat_eq (map variable_of qualifiers.now) }
     ensures { IfOk result (λ places. (x place : ℕ) → (get nat_eq places x ≡ Some place)
         ↔ IsPlaceOf qualifiers.now x place) }
