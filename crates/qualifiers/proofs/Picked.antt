@@ -28,8 +28,8 @@ pub numbers_more : (f : ℕ → ℕ) (xs : List ℕ) (y i : ℕ) (ys : List ℕ)
 numbers_more f xs y i ys is len each here = (
   omega (arith, ap length is, len, length-append xs (y ∷ [])),
   below_more _ i
-  (λ k lt. let below : k < length xs = omega (arith, len, lt) in ap (λ l. get_or l k 0) is ∙ get_or_append_left xs (y ∷ []) 0 k below ∙ each k lt)
-  (ap (λ l. get_or l i 0) is ∙ get_or_push xs y 0 i len ∙ here),
+      (λ k lt. let below : k < length xs = omega (arith, len, lt) in ap (λ l. get_or l k 0) is ∙ get_or_append_left xs (y ∷ []) 0 k below ∙ each k lt)
+      (ap (λ l. get_or l i 0) is ∙ get_or_push xs y 0 i len ∙ here),
 )
 
 -- a digit of a number in mixed bases is one of the rest that is left of higher ones
@@ -131,10 +131,9 @@ module _ (qs : List Qualifier) (number : ℕ) (lt : number < length (choices_of 
   pub some_by_place : IsDistinct nat_eq (map variable_of qs) → (blocks : List ℕ) → AreBlocks qs blocks → (i j : ℕ) (s : StandsFor qs i j) → 0 < length s.first.choices → (a : Tree (PatternCell Head)) → slice_get s.second.choices (number / slice_index blocks j % length s.second.choices) ≡ Some a → (z : ℕ) × Stands (choice_with qs number) s.first.variable z × (chosen (choice_with qs number) z ≡ Some a)
   some_by_place distinct blocks are i j s some a got =
       let below = slice_get_within qs j s.second s.at_other in
-      let block : slice_index blocks j ≡ ways (drop (suc j) (qualifiers_held qs)) = are.each j below ∙ ap (λ k. length (choices_of (drop k (qualifiers_held qs)))) (add-one j) ∙ length-choices (drop (suc j) (qualifiers_held qs)) in
-      (
+      let block : slice_index blocks j ≡ ways (drop (suc j) (qualifiers_held qs)) = are.each j below ∙ ap (λ k. length (choices_of (drop k (qualifiers_held qs)))) (add-one j) ∙ length-choices (drop (suc j) (qualifiers_held qs)) in (
         s.second.variable,
         s.always (choice_with qs number) choice_with_listed,
         chosen_at (qualifiers_held qs) number (choice_with qs number) (subst (IsDistinct nat_eq) (sym (names_held qs)) distinct) choice_with_is j (qualifier_held s.second) (got_map qualifier_held qs j s.second s.at_other) (s.offers some) a
-        (subst (λ b. slice_get s.second.choices (number / b % length s.second.choices) ≡ Some a) block got),
+            (subst (λ b. slice_get s.second.choices (number / b % length s.second.choices) ≡ Some a) block got),
       )

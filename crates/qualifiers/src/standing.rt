@@ -11,11 +11,7 @@ use indexmap::IndexMap;
 use std::alloc::Global;
 
 /// The place of the variable that is the only alternative here, if it has alternatives itself.
-fn next_place(
-    qualifiers: &Qualifiers,
-    places: &IndexMap<u32, usize>,
-    place: usize,
-) -> Option<usize>
+fn next_place(qualifiers: &Qualifiers, places: &IndexMap<u32, usize>, place: usize) -> Option<usize>
     requires distinct { IsDistinct nat_eq (map variable_of qualifiers.now) }
     requires patterns { ArePatterns qualifiers.now }
     requires places { ArePlaces qualifiers.now places.now }

@@ -13,10 +13,7 @@ use eq_base::{Cell, NoMemory, Pattern, PatternMaker};
 use std::alloc::Global;
 
 /// The variables that are in classes, each with the number of its class.
-fn classes_of(
-    alloc: Global,
-    conditions: &[TakenCondition],
-) -> Result<VariableClasses, NoMemory>
+fn classes_of(alloc: Global, conditions: &[TakenCondition]) -> Result<VariableClasses, NoMemory>
     ensures { IfOk result (λ classes. classes ≡ classes_in conditions.now) }
 {
     let mut list = Vec::new(alloc);
@@ -54,7 +51,11 @@ fn classed(alloc: Global, classes: &VariableClasses, pattern: &Pattern) -> Resul
 }
 
 /// The side, with its variables in their classes. It is copied only where there are classes.
-fn classed_side(alloc: Global, classes: &VariableClasses, pattern: Pattern) -> Result<Pattern, NoMemory>
+fn classed_side(
+    alloc: Global,
+    classes: &VariableClasses,
+    pattern: Pattern,
+) -> Result<Pattern, NoMemory>
     ensures { IfOk result (λ copy. copy ≡ map_heads (classed classes.now) pattern) }
 {
     if classes.is_empty() {

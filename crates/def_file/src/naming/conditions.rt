@@ -185,15 +185,7 @@ pub fn take_conditions(
     let mut taken = Vec::new(alloc);
     let mut qualified = Interned::new(alloc);
     for next in conditions {
-        let condition = take_condition(
-            alloc,
-            text,
-            syntax,
-            next,
-            symbols,
-            listed,
-            &mut qualified,
-        )?;
+        let condition = take_condition(alloc, text, syntax, next, symbols, listed, &mut qualified)?;
         taken.push(condition)?;
     }
     Ok(taken)

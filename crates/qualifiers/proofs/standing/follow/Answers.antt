@@ -30,7 +30,7 @@ loop-preserved c =
     record {
       within = slice_get_within qs end further.second further.at_other;
       way = subst (AllByRecursion (λ i. StandsFor qs i end)) (sym c.in_ok-push.ensures.items)
-      (all_map (λ i. StandsFor qs i here) (λ i. StandsFor qs i end) (c.loop.way.items ++ here ∷ []) (λ i s. stands_for_then qs i here end s (stands_for_then qs here next end c.in-Some.ensures further)) way);
+          (all_map (λ i. StandsFor qs i here) (λ i. StandsFor qs i end) (c.loop.way.items ++ here ∷ []) (λ i s. stands_for_then qs i here end s (stands_for_then qs here next end c.in-Some.ensures further)) way);
     }
 
 pub returns : goal.returns
