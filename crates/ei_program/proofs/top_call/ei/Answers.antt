@@ -1,11 +1,9 @@
-use Rattle.ei_program.specs.Run.{Given}
-use Rattle.ei_program.specs.Due.{IsDue}
-use Rattle.ei_program.proofs.Exact.{comes_to}
-use Rattle.ei_program.proofs.WrittenSteps.{written_steps}
 use Rattle.std.proofs.Common.{⊎_elim, List, subst, sym, map, string_bytes, String}
 use Rattle.std.specs.declared.alloc.Global.{Global}
-use Rattle.ei_program.specs.Words.{IsCommandLine}
-use Rattle.ei_program.specs.Run.{Leaves, LeavesOn}
+use Rattle.command_line.specs.Asked.{IsCommandLine}
+use Rattle.ei_program.specs.Run.{Given, IsDue, Leaves, LeavesOn}
+use Rattle.ei_program.proofs.Exact.{comes_to}
+use Rattle.ei_program.proofs.WrittenSteps.{written_steps}
 use Rattle.ei_program.proofs.top_call.ei.Goals as goal
 
 pub returns-clause-leaves : goal.returns-clause-leaves
@@ -28,11 +26,11 @@ returns-clause-exact g c = λ named bytes known is due is_due no_file no_input n
     let r = c.run-outcome in
     let W = λ (words : List (String Global)). IsDue (record { words = map string_bytes words; named = named; input = bytes }) due in
     let given : Given = record { words = map string_bytes c.deref.result.now; named = named; input = bytes } in
-    let left = r.ensures.left named bytes known is in
     let told = c.tell.ensures in
-    comes_to given (g.I.Source.left r.new.input) r.result left.0 left.1 due (subst W (sym c.deref.ensures.value) is_due)
-    (λ e. ⊎_elim no_file no_input (r.ensures.read e)) (λ e. no_output (r.ensures.write e))
-    (g.E.Sink.taken c.args.errors.now) (g.E.Sink.taken c.tell.new.errors) c.tell.result told.told (λ e other. no_error (told.write e other))
+    comes_to given (g.I.Source.left r.new.input) (g.O.Sink.taken c.args.output.now) (g.O.Sink.taken r.new.output)
+    (g.E.Sink.taken c.args.errors.now) (g.E.Sink.taken c.tell.new.errors) c.tell.result
+    r.result (r.ensures.left named bytes known is) due (subst W (sym c.deref.ensures.value) is_due)
+    (λ e. ⊎_elim no_file no_input (r.ensures.read e)) (λ e. no_output (r.ensures.write e)) told.told (λ other e. no_error (told.write e other))
 
 pub returns-clause-steps : goal.returns-clause-steps
 returns-clause-steps g c = written_steps
