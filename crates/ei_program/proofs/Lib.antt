@@ -25,4 +25,5 @@ mod Exact
 mod Ended
 mod Begun
 mod NextTerms
+mod Things
 mod Made
