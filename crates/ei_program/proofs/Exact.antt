@@ -1,8 +1,7 @@
--- A run that neither fails nor lacks memory comes to what is due.
+-- A run that neither fails nor lacks memory does what is due.
 use Rattle.std.proofs.Common.{◌≡◌, ◌≢◌, ◌⊎◌, ℕ, List, None, inl, inr, refl, sym, ◌∙◌, ap, subst}
 use Rattle.std.specs.declared.option.Option.{Option}
 use Rattle.std.specs.Io.KnownBytes.{Appends}
-use Rattle.symbol_table.specs.Table.{HasDistinctNames}
 use Rattle.ei_program.specs.declared.settings.Settings.{Settings}
 use Rattle.ei_program.specs.Definitions.{Definitions}
 use Rattle.ei_program.specs.Answering.{AnswersText, TextLeft}
@@ -15,65 +14,82 @@ use Rattle.ei_program.specs.Lines.{bytes_of}
 use Rattle.ei_program.specs.Outcomes.{Told, told_of}
 use Rattle.ei_program.specs.Done.{Done, IsLeft}
 use Rattle.ei_program.specs.Run.{Given, IsDue, Leaves, LeavesOn}
-use Rattle.ei_program.specs.Telling.{IsWritten, IsToldOn, ComesTo}
-use Rattle.ei_program.proofs.OneDue.{answers_one, due_one}
-use Rattle.ei_program.proofs.Leaving.{LeavesDue}
+use Rattle.ei_program.specs.Telling.{IsWritten, IsToldOn, DoesDue}
 
--- a message that is told by the status of want of memory, or that was not written
-pub no_memory : (old new : Option (List ℕ)) (status : Status) → status ≢ statuses.WriteFailed → IsWritten (told_of (Stopped NoMemory)) old new status → status ≡ statuses.NoMemory
-no_memory old new status whole (inl (is, appends)) = is
-no_memory old new status whole (inr (failed, rest)) = absurd (whole failed)
+-- what is told whole
+abbrev IsTold : Told → Option (List ℕ) → Option (List ℕ) → Status → Type 0
+IsTold told old new status = (status ≡ told.status) × Appends old new told.message
 
-module _ (given : Given) (left out_old out_new err_old err_new : Option (List ℕ)) (status : Status) where
-  -- what is left and told of an outcome that is due
-  due_left : (outcome : Outcome) (written : List ℕ) → LeavesDue given left outcome written → Appends out_old out_new written → (due : Done) → IsDue given due → IsToldOn (told_of outcome) err_old err_new status → ComesTo given.input due left out_old out_new err_old err_new status
-  due_left outcome written (done, is, told, rest, bytes) appends due is_due told_on =
-      let same : done ≡ due = due_one given done due is is_due in
-      subst (λ (d : Done). ComesTo given.input d left out_old out_new err_old err_new status) same
-      (inr (rest, subst (Appends out_old out_new) bytes appends, subst (λ (t : Told). IsToldOn t err_old err_new status) (sym told) told_on))
+-- a message that could be written was written whole
+written_whole : (told : Told) (old new : Option (List ℕ)) (status : Status) → status ≢ statuses.WriteFailed → IsWritten told old new status → IsTold told old new status
+written_whole told old new status whole (inl is) = is
+written_whole told old new status whole (inr (failed, rest)) = absurd (whole failed)
 
-  -- where no port failed, the run comes to what is due
-  pub comes_to : (outcome : Outcome) → LeavesOn (Leaves given left outcome) out_old out_new → (due : Done) → IsDue given due
-      → outcome ≢ Stopped ReadFailed → outcome ≢ Stopped WriteFailed → IsToldOn (told_of outcome) err_old err_new status
-      → (outcome ≢ Stopped WriteFailed → status ≢ statuses.WriteFailed) → ComesTo given.input due left out_old out_new err_old err_new status
-  comes_to (Stopped NoMemory) l due is read write (inl told) whole = inl (no_memory err_old err_new status (whole write) told)
-  comes_to (Stopped NoMemory) l due is read write (inr told) whole = inl (no_memory err_old err_new status (whole write) told)
-  comes_to (Stopped ReadFailed) l due is read write told whole = absurd (read refl)
-  comes_to (Stopped WriteFailed) l due is read write told whole = absurd (write refl)
-  comes_to Answered (written, l, appends) due is read write told whole = due_left Answered written l appends due is told
-  comes_to Questions (written, l, appends) due is read write told whole = due_left Questions written l appends due is told
-  comes_to BadWords (written, l, appends) due is read write told whole = due_left BadWords written l appends due is told
-  comes_to (FileRefused fault) (written, l, appends) due is read write told whole = due_left (FileRefused fault) written l appends due is told
-  comes_to (Broken breaks rules) (written, l, appends) due is read write told whole = due_left (Broken breaks rules) written l appends due is told
-  comes_to (TermRefused fault) (written, l, appends) due is read write told whole = due_left (TermRefused fault) written l appends due is told
-  comes_to InputLong (written, l, appends) due is read write told whole = due_left InputLong written l appends due is told
+-- and is what is told, or memory ran out
+told_whole : (told : Told) (old new : Option (List ℕ)) (status : Status) → status ≢ statuses.WriteFailed → IsToldOn told old new status → (status ≡ statuses.NoMemory) ⊎ IsTold told old new status
+told_whole told old new status whole (inl written) = inr (written_whole told old new status whole written)
+told_whole told old new status whole (inr none) = inl (written_whole (told_of (Stopped NoMemory)) old new status whole none).0
 
--- ---- the answering of terms alone
+-- something is due, is told by the outcome, and was done but for the telling
+abbrev pub IsDueBy : (Done → Type 0) → List ℕ → Option (List ℕ) → Outcome → List ℕ → Type 0
+IsDueBy Due input left outcome written =
+    (done : Done) × Due done × (done.told ≡ told_of outcome) × IsLeft input done.rest left × (written ≡ bytes_of done.lines)
 
--- what is told of a text whose terms are all answered
-abbrev pub TextDue : Settings → Definitions → List ℕ → Option (List ℕ) → Outcome → List ℕ → Type 0
-TextDue settings d text left outcome written =
-    (done : Done) × AnswersText settings d None text done × (done.told ≡ told_of outcome) × IsLeft text done.rest left × (written ≡ bytes_of done.lines)
+module _ (Due : Done → Type 0) (input : List ℕ) (left out_old out_new err_old err_new : Option (List ℕ)) (status : Status) where
+  abbrev Does : Type 0
+  Does = DoesDue Due input left out_old out_new err_old err_new status
 
-module _ (settings : Settings) (d : Definitions) (distinct : HasDistinctNames d.names) (text : List ℕ) (left out_old out_new err_old err_new : Option (List ℕ)) (status : Status) where
-  text_due : (outcome : Outcome) (written : List ℕ) → TextDue settings d text left outcome written → Appends out_old out_new written → (due : Done) → AnswersText settings d None text due → IsToldOn (told_of outcome) err_old err_new status → ComesTo text due left out_old out_new err_old err_new status
-  text_due outcome written (done, answers, told, rest, bytes) appends due is_due told_on =
-      let same : done ≡ due = answers_one settings d distinct None text done due answers is_due in
-      subst (λ (x : Done). ComesTo text x left out_old out_new err_old err_new status) same
-      (inr (rest, subst (Appends out_old out_new) bytes appends, subst (λ (t : Told). IsToldOn t err_old err_new status) (sym told) told_on))
+  pub does_due : (outcome : Outcome) → LeavesOn (IsDueBy Due input left outcome) out_old out_new → status ≢ statuses.WriteFailed → IsToldOn (told_of outcome) err_old err_new status → Does
+  does_due outcome (written, (done, due, told, rest, bytes), appends) whole told_on = elim (told_whole (told_of outcome) err_old err_new status whole told_on) [
+    | inl none ↦ inl none
+    | inr p ↦
+        let there = subst (λ (t : Told). IsTold t err_old err_new status) (sym told) p in
+        inr (done, due, record { rest = rest; lines = subst (Appends out_old out_new) bytes appends; status = there.0; message = there.1 })
+  ]
 
-  -- where no port failed, the answering comes to what is due
-  pub terms_come_to : (outcome : Outcome) → LeavesOn (TextLeft settings d text left outcome) out_old out_new → (due : Done) → AnswersText settings d None text due
-      → outcome ≢ Stopped ReadFailed → outcome ≢ Stopped WriteFailed → IsToldOn (told_of outcome) err_old err_new status
-      → (outcome ≢ Stopped WriteFailed → status ≢ statuses.WriteFailed) → ComesTo text due left out_old out_new err_old err_new status
-  terms_come_to (Stopped NoMemory) l due is read write (inl told) whole = inl (no_memory err_old err_new status (whole write) told)
-  terms_come_to (Stopped NoMemory) l due is read write (inr told) whole = inl (no_memory err_old err_new status (whole write) told)
-  terms_come_to (Stopped ReadFailed) l due is read write told whole = absurd (read refl)
-  terms_come_to (Stopped WriteFailed) l due is read write told whole = absurd (write refl)
-  terms_come_to Answered (written, l, appends) due is read write told whole = text_due Answered written l appends due is told
-  terms_come_to Questions (written, l, appends) due is read write told whole = text_due Questions written l appends due is told
-  terms_come_to BadWords (written, l, appends) due is read write told whole = text_due BadWords written l appends due is told
-  terms_come_to (FileRefused fault) (written, l, appends) due is read write told whole = text_due (FileRefused fault) written l appends due is told
-  terms_come_to (Broken breaks rules) (written, l, appends) due is read write told whole = text_due (Broken breaks rules) written l appends due is told
-  terms_come_to (TermRefused fault) (written, l, appends) due is read write told whole = text_due (TermRefused fault) written l appends due is told
-  terms_come_to InputLong (written, l, appends) due is read write told whole = text_due InputLong written l appends due is told
+  pub no_memory : status ≢ statuses.WriteFailed → IsToldOn (told_of (Stopped NoMemory)) err_old err_new status → Does
+  no_memory whole told = elim (told_whole (told_of (Stopped NoMemory)) err_old err_new status whole told) [ inl none ↦ inl none | inr p ↦ inl p.0 ]
+
+-- where no port failed, a run does what is due
+pub comes_to : (given : Given) (left out_old out_new err_old err_new : Option (List ℕ)) (status : Status) (outcome : Outcome) → LeavesOn (Leaves given left outcome) out_old out_new
+    → outcome ≢ Stopped ReadFailed → outcome ≢ Stopped WriteFailed → IsToldOn (told_of outcome) err_old err_new status
+    → (outcome ≢ Stopped WriteFailed → status ≢ statuses.WriteFailed) → DoesDue (IsDue given) given.input left out_old out_new err_old err_new status
+comes_to given left out_old out_new err_old err_new status outcome l read write told whole = by outcome l read write told (whole write)
+  where
+    does : (o : Outcome) → LeavesOn (IsDueBy (IsDue given) given.input left o) out_old out_new → status ≢ statuses.WriteFailed → IsToldOn (told_of o) err_old err_new status → DoesDue (IsDue given) given.input left out_old out_new err_old err_new status
+    does o l whole told = does_due (IsDue given) given.input left out_old out_new err_old err_new status o l whole told
+
+    by : (o : Outcome) → LeavesOn (Leaves given left o) out_old out_new → o ≢ Stopped ReadFailed → o ≢ Stopped WriteFailed → IsToldOn (told_of o) err_old err_new status → status ≢ statuses.WriteFailed
+        → DoesDue (IsDue given) given.input left out_old out_new err_old err_new status
+    by (Stopped NoMemory) l read write told whole = no_memory (IsDue given) given.input left out_old out_new err_old err_new status whole told
+    by (Stopped ReadFailed) l read write told whole = absurd (read refl)
+    by (Stopped WriteFailed) l read write told whole = absurd (write refl)
+    by Answered l read write told whole = does Answered l whole told
+    by Questions l read write told whole = does Questions l whole told
+    by BadWords l read write told whole = does BadWords l whole told
+    by (FileRefused fault) l read write told whole = does (FileRefused fault) l whole told
+    by (Broken breaks rules) l read write told whole = does (Broken breaks rules) l whole told
+    by (TermRefused fault) l read write told whole = does (TermRefused fault) l whole told
+    by InputLong l read write told whole = does InputLong l whole told
+
+-- the same of the answering of terms alone
+pub terms_come_to : (settings : Settings) (d : Definitions) (text : List ℕ) (left out_old out_new err_old err_new : Option (List ℕ)) (status : Status) (outcome : Outcome) → LeavesOn (TextLeft settings d text left outcome) out_old out_new
+    → outcome ≢ Stopped ReadFailed → outcome ≢ Stopped WriteFailed → IsToldOn (told_of outcome) err_old err_new status
+    → (outcome ≢ Stopped WriteFailed → status ≢ statuses.WriteFailed) → DoesDue (AnswersText settings d None text) text left out_old out_new err_old err_new status
+terms_come_to settings d text left out_old out_new err_old err_new status outcome l read write told whole = by outcome l read write told (whole write)
+  where
+    does : (o : Outcome) → LeavesOn (IsDueBy (AnswersText settings d None text) text left o) out_old out_new → status ≢ statuses.WriteFailed → IsToldOn (told_of o) err_old err_new status → DoesDue (AnswersText settings d None text) text left out_old out_new err_old err_new status
+    does o l whole told = does_due (AnswersText settings d None text) text left out_old out_new err_old err_new status o l whole told
+
+    by : (o : Outcome) → LeavesOn (TextLeft settings d text left o) out_old out_new → o ≢ Stopped ReadFailed → o ≢ Stopped WriteFailed → IsToldOn (told_of o) err_old err_new status → status ≢ statuses.WriteFailed
+        → DoesDue (AnswersText settings d None text) text left out_old out_new err_old err_new status
+    by (Stopped NoMemory) l read write told whole = no_memory (AnswersText settings d None text) text left out_old out_new err_old err_new status whole told
+    by (Stopped ReadFailed) l read write told whole = absurd (read refl)
+    by (Stopped WriteFailed) l read write told whole = absurd (write refl)
+    by Answered l read write told whole = does Answered l whole told
+    by Questions l read write told whole = does Questions l whole told
+    by BadWords l read write told whole = does BadWords l whole told
+    by (FileRefused fault) l read write told whole = does (FileRefused fault) l whole told
+    by (Broken breaks rules) l read write told whole = does (Broken breaks rules) l whole told
+    by (TermRefused fault) l read write told whole = does (TermRefused fault) l whole told
+    by InputLong l read write told whole = does InputLong l whole told

@@ -23,6 +23,7 @@ mod Counting
 mod Leaving
 mod Exact
 mod Ended
+mod OneStep
 mod Begun
 mod NextTerms
 mod Things

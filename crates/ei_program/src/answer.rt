@@ -82,7 +82,10 @@ fn answer_next<I: Source, O: Sink>(
             ready.symbols.cut_to(mark);
             write_line(&line, output)
         }
-        Next::End(end) => Step::End(end),
+        Next::End(end) => {
+            ready.symbols.cut_to(mark);
+            Step::End(end)
+        }
     }
 }
 

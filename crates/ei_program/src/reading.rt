@@ -194,6 +194,7 @@ pub fn next_term<I: Source>(
     ensures count { IsCounted (I.faults input.old) (I.faults input.new) stream.old stream.new }
     ensures through { I.through input.new ≡ I.through input.old }
 {
+    symbols.has_one_number_each();
     if skip_gap(stream, input)? {
         next_thing(alloc, syntax, symbols, stream, input)
     } else {

@@ -5,10 +5,9 @@ ghost use Rattle.term_lex.specs.declared.syntax.Syntax.{Syntax};
 ghost use Rattle.command_line.specs.Asked.{IsCommandLine};
 ghost use Rattle.ei_program.specs.Definitions.{Definitions, Defines, BreaksNone, HasWrittenSteps, definitions_of};
 ghost use Rattle.ei_program.specs.Loading.{IsReady};
-ghost use Rattle.ei_program.specs.Done.{Done};
 ghost use Rattle.ei_program.specs.Answering.{AnswersText, TextLeft};
 ghost use Rattle.ei_program.specs.Run.{IsDue, Leaves};
-ghost use Rattle.ei_program.specs.Telling.{HasOutcome, ComesTo};
+ghost use Rattle.ei_program.specs.Telling.{HasOutcome, DoesDue};
 
 use crate::answer::answer_input;
 use crate::ready::Ready;
@@ -38,12 +37,11 @@ pub fn answer_terms<I: Source, O: Sink, E: Sink>(
 
     // Where no fault count rose and memory was found, all terms are answered, up to the end of the input's reading.
     ensures exact { (bytes : List ℕ) → I.left input.old ≡ Some bytes
-        → (due : Done) → AnswersText settings.now (definitions_of ready.old) None bytes due
         → (¬ Rose (I.faults input.old) (I.faults input.new))
         → (¬ Rose (O.faults output.old) (O.faults output.new))
         → (¬ Rose (E.faults errors.old) (E.faults errors.new))
-        → ComesTo bytes due (I.left input.new) (O.taken output.old) (O.taken output.new)
-        (E.taken errors.old) (E.taken errors.new) result }
+        → DoesDue (AnswersText settings.now (definitions_of ready.old) None bytes) bytes (I.left input.new)
+        (O.taken output.old) (O.taken output.new) (E.taken errors.old) (E.taken errors.new) result }
 
     // A failure is told only where a fault count rose.
     ensures read { result ≡ Status.ReadFailed → Rose (I.faults input.old) (I.faults input.new) }
@@ -80,17 +78,17 @@ pub fn ei<F: Files, I: Source, O: Sink, E: Sink>(
         (Leaves (record { words = map string_bytes words.items; named = named; input = bytes }) (I.left input.new))
         (O.taken output.old) (O.taken output.new) (E.taken errors.old) (E.taken errors.new) result }
 
-    // Where no fault count rose and memory was found, the run comes to what is due by its words, its file and its input.
+    // Where no fault count rose and memory was found, something is due by the words, the files and the input, which is
+    // one thing at most by the law of `one_thing_is_due`, and all of it was done.
     ensures exact { (named : List ℕ → Option (List ℕ)) (bytes : List ℕ) → F.named files.old ≡ Some named
         → I.left input.old ≡ Some bytes
-        → (due : Done)
-        → IsDue (record { words = map string_bytes words.items; named = named; input = bytes }) due
         → (¬ Rose (F.faults files.old) (F.faults files.new))
         → (¬ Rose (I.faults input.old) (I.faults input.new))
         → (¬ Rose (O.faults output.old) (O.faults output.new))
         → (¬ Rose (E.faults errors.old) (E.faults errors.new))
-        → ComesTo bytes due (I.left input.new) (O.taken output.old) (O.taken output.new)
-        (E.taken errors.old) (E.taken errors.new) result }
+        → DoesDue (IsDue (record { words = map string_bytes words.items; named = named; input = bytes })) bytes
+        (I.left input.new) (O.taken output.old) (O.taken output.new) (E.taken errors.old) (E.taken errors.new)
+        result }
 
     // By whatever file: the root steps by its equations are exactly the instances of its own items, as they
     // are written.
