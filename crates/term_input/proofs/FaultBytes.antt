@@ -9,7 +9,7 @@ use Rattle.eq_base.specs.Tree.{cells}
 use Rattle.eq_base.proofs.Lists.{all_front, all_back}
 use Rattle.term_lex.specs.declared.token.Token.{Token}
 use Rattle.term_lex.specs.declared.token.TokenKind.{TokenKind}
-use Rattle.term_lex.specs.declared.token.TokenKind.TheVariants.{Name, Numeral, Text, Dot}
+use Rattle.term_lex.specs.declared.token.TokenKind.TheVariants.{Name, Numeral, Text, End}
 use Rattle.term_lex.specs.declared.fault.Fault.{Fault}
 use Rattle.term_lex.specs.declared.fault.FaultKind.{FaultKind}
 use Rattle.term_lex.specs.declared.fault.FaultKind.TheVariants.{BadByte, OpenString, BadEscape, NumeralPast, NameLong, StringLong}
@@ -61,7 +61,7 @@ near_one from None = near_fault BadByte from from (omega arith)
 
 -- the fault of any token but a string stands at its first byte
 near_plain : (from : ℕ) (bs : List ℕ) → Near from (plain_token from bs)
-near_plain from [] f e = cc (e)
+near_plain from [] = near_token End from 0 from
 near_plain from (b ∷ bs) =
     let numeral = numeral_of false from 0 (b ∷ bs) in
     let minus = minus_of from bs in
