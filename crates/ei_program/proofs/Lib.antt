@@ -5,6 +5,8 @@ mod FileEquations
 mod Holding
 mod Answers
 mod Sums
+mod Lengths
+mod HeldWindows
 mod Broken
 mod Loadings
 mod WaysDown
@@ -24,6 +26,7 @@ mod Leaving
 mod Exact
 mod Ended
 mod OneStep
+mod ChosenTerms
 mod Begun
 mod NextTerms
 mod Things

@@ -23,6 +23,8 @@ use Rattle.ei_program.specs.declared.reading.Next.{Next}
 use Rattle.ei_program.specs.declared.reading.Next.TheVariants as nexts
 use Rattle.ei_program.specs.Reading.{end_of, readable, window_of, MayChange, EndsSo, Goes, IsFarther, SkipsTo, window, IsThing, ComesNext}
 use Rattle.ei_program.proofs.Taken.{window_taken, ends_taken, goes_weaker}
+use Rattle.ei_program.proofs.Lengths.{le_zero, behind_front, behind_le}
+use Rattle.ei_program.proofs.HeldWindows.{window_held}
 use Rattle.ei_program.proofs.Skipping.{given}
 use Rattle.ei_program.proofs.NextTerms.{stands_more, end_comes, thing_comes}
 
@@ -35,8 +37,8 @@ farther b c old mid new place more may t = record { place = t.place ∙ place; m
 
     by_state : (state : SourceState) → new.state ≡ state → (length old.bytes < length new.bytes) ⊎ (new.state ≢ Open)
     by_state Open is = let some = t.some may is in inl (omega (arith, some, more, longer))
-    by_state AtEnd is = inr (λ open. let no : Open ≡ AtEnd = sym open ∙ is in cc (no))
-    by_state Failed is = inr (λ open. let no : Open ≡ Failed = sym open ∙ is in cc (no))
+    by_state AtEnd is = inr (λ opened. let no : Open ≡ AtEnd = sym opened ∙ is in cc (no))
+    by_state Failed is = inr (λ opened. let no : Open ≡ Failed = sym opened ∙ is in cc (no))
 
 module _ (syntax : Syntax) (names : Table) (table : Table) (a b : Option (List ℕ)) (old mid : Held) (place_is : mid.place ≡ old.place) (limit : mid.limit ≡ old.limit) (gone : Goes a b old mid (λ taken. Unit {0})) where
   -- the window of what is held is that of the first place in all that was taken
@@ -46,24 +48,21 @@ module _ (syntax : Syntax) (names : Table) (table : Table) (a b : Option (List �
       ∙ ap (λ n. window syntax names n taken mid.place) limit
       ∙ ap (window syntax names old.limit taken) place_is
 
-  window_held : length (window_of mid) ≤ length mid.bytes
-  window_held = omega (arith, length-take inputs.window_bytes (readable mid), length-take (mid.limit - mid.place) mid.bytes)
-
   -- ---- a term
 
   module _ (t : Tree Head) (len place : ℕ) (reads : ReadsOne syntax names (window_of mid) (Ok (read table t, len))) (behind : place ≡ mid.place + len) where
     len_within : len ≤ length (window_of mid)
-    len_within = (term_within (notation_of syntax) names (window_of mid) 0 (read table t) len (omega arith) reads).1
+    len_within = (term_within (notation_of syntax) names (window_of mid) 0 (read table t) len (le_zero (length (window_of mid))) reads).1
 
     -- its bytes were taken
     pub term_taken : place ≤ mid.place + length mid.bytes
-    term_taken = omega (arith, behind, len_within, window_held)
+    term_taken = behind_front place mid.place len (length (window_of mid)) (length mid.bytes) behind len_within (window_held mid)
 
     pub term_read : Goes a b old (given mid place) (IsThing syntax names table old (given mid place) (nexts.Term t))
     term_read before taken is =
         let (more, there, none) = gone before taken is in
         let moved = subst (λ w. ReadsOne syntax names w (Ok (read table t, len))) (window_there before (taken ++ more) there) reads in
-        (more, given_up before b (taken ++ more) mid place there (omega (arith, behind)) term_taken, (len, moved, omega (arith, behind, place_is)))
+        (more, given_up before b (taken ++ more) mid place there (behind_le place mid.place len behind) term_taken, (len, moved, behind ∙ ap (λ n. n + len) place_is))
 
   -- ---- the end
 
