@@ -26,3 +26,7 @@ mod Ended
 mod Begun
 mod NextTerms
 mod Made
+mod Stepped
+mod Following
+mod ReadToEnd
+mod Chosen
