@@ -2,18 +2,15 @@
 use Rattle.std.specs.Prelude.{◌≡◌, ◌⊎◌, ℕ, List, ◌++◌}
 use Rattle.std.specs.declared.option.Option.{Option}
 use Rattle.std.specs.Io.KnownBytes.{Appends}
-use Rattle.ei_program.specs.declared.settings.Settings.{Settings}
 use Rattle.ei_program.specs.declared.outcome.Outcome.{Outcome}
 use Rattle.ei_program.specs.declared.outcome.Outcome.TheVariants.{Stopped}
 use Rattle.ei_program.specs.declared.stop.Stop.TheVariants.{NoMemory}
 use Rattle.ei_program.specs.declared.status.Status.{Status}
 use Rattle.ei_program.specs.declared.status.Status.TheVariants as statuses
-use Rattle.ei_program.specs.Definitions.{Definitions}
 use Rattle.ei_program.specs.Lines.{bytes_of}
 use Rattle.ei_program.specs.Outcomes.{Told, told_of}
 use Rattle.ei_program.specs.Done.{Done, IsLeft}
-use Rattle.ei_program.specs.Answering.{AnswersText, TextLeft}
-use Rattle.ei_program.specs.Run.{Given, IsDue, Leaves, LeavesOn}
+use Rattle.ei_program.specs.Run.{LeavesOn}
 
 -- the message whole and its status, or a front of the message and status 8
 abbrev pub IsWritten : Told → Option (List ℕ) → Option (List ℕ) → Status → Type 0
@@ -34,10 +31,16 @@ pub record HasOutcome (Left : Outcome → List ℕ → Type 0) (out_old out_new 
   pub leaves : LeavesOn (Left outcome) out_old out_new
   pub told : IsToldOn (told_of outcome) err_old err_new status
 
--- memory ran out, or all of this was done: what is left of the input, what is written, and what is told
-abbrev pub ComesTo : List ℕ → Done → (left out_old out_new err_old err_new : Option (List ℕ)) → Status
-    → Type 0
-ComesTo input done left out_old out_new err_old err_new status =
+-- all of this was done: it is left of the input, written and told
+abbrev pub IsDone : List ℕ → Done → (left out_old out_new err_old err_new : Option (List ℕ)) → Status → Type 0
+IsDone input done left out_old out_new err_old err_new status =
+    IsLeft input done.rest left × Appends out_old out_new (bytes_of done.lines)
+    × IsToldOn done.told err_old err_new status
+
+-- memory ran out; or something is due, nothing else is, and it was done
+abbrev pub ComesToDue : (Done → Type 0) → List ℕ → (left out_old out_new err_old err_new : Option (List ℕ))
+    → Status → Type 0
+ComesToDue IsDue input left out_old out_new err_old err_new status =
     (status ≡ statuses.NoMemory)
-    ⊎ (IsLeft input done.rest left × Appends out_old out_new (bytes_of done.lines)
-    × IsToldOn done.told err_old err_new status)
+    ⊎ ((done : Done) × IsDue done × ((other : Done) → IsDue other → other ≡ done)
+    × IsDone input done left out_old out_new err_old err_new status)

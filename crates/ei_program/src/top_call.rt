@@ -7,10 +7,9 @@ ghost use Rattle.command_line.specs.declared.task.Task.{Task};
 ghost use Rattle.command_line.specs.Asked.{Asks, IsCommandLine};
 ghost use Rattle.ei_program.specs.Definitions.{Definitions, Defines, BreaksNone, HasWrittenSteps, definitions_of};
 ghost use Rattle.ei_program.specs.Loading.{IsReady};
-ghost use Rattle.ei_program.specs.Done.{Done};
 ghost use Rattle.ei_program.specs.Answering.{AnswersText, TextLeft};
 ghost use Rattle.ei_program.specs.Run.{IsDue, Leaves};
-ghost use Rattle.ei_program.specs.Telling.{HasOutcome, ComesTo};
+ghost use Rattle.ei_program.specs.Telling.{HasOutcome, ComesToDue};
 
 use crate::answer::answer_input;
 use crate::ready::Ready;
@@ -39,20 +38,14 @@ pub fn answer_terms<I: Source, O: Sink, E: Sink>(
         (O.taken output.old) (O.taken output.new) (E.taken errors.old) (E.taken errors.new) result }
 
     // Where no fault count rose and memory was found, all terms are answered, up to the end of the input's reading.
+    // There is one such answer.
     ensures exact { (bytes : List ℕ) → I.left input.old ≡ Some bytes
-        → (due : Done) → AnswersText settings.now (definitions_of ready.old) None bytes due
         → (¬ Rose (I.faults input.old) (I.faults input.new))
         → (¬ Rose (O.faults output.old) (O.faults output.new))
         → (¬ Rose (E.faults errors.old) (E.faults errors.new))
-        → ComesTo bytes due (I.left input.new) (O.taken output.old) (O.taken output.new)
+        → ComesToDue (AnswersText settings.now (definitions_of ready.old) None bytes) bytes
+        (I.left input.new) (O.taken output.old) (O.taken output.new)
         (E.taken errors.old) (E.taken errors.new) result }
-
-    // There are such answers.
-    ensures due { (bytes : List ℕ) → I.left input.old ≡ Some bytes
-        → (¬ Rose (I.faults input.old) (I.faults input.new))
-        → (¬ Rose (O.faults output.old) (O.faults output.new))
-        → (¬ Rose (E.faults errors.old) (E.faults errors.new)) → result ≢ Status.NoMemory
-        → (due : Done) × AnswersText settings.now (definitions_of ready.old) None bytes due }
 
     // The equations are as before, and what is declared and included is.
     ensures same { ready.new.regular ≡ ready.old.regular }
@@ -94,27 +87,17 @@ pub fn ei<F: Files, I: Source, O: Sink, E: Sink>(
         (F.rest files.new) (I.left input.new))
         (O.taken output.old) (O.taken output.new) (E.taken errors.old) (E.taken errors.new) result }
 
-    // Where no fault count rose and memory was found, the run comes to what is due by its words, its file and its input.
+    // Where no fault count rose and memory was found, one thing is due by the words, the files and the input, and the
+    // run comes to it.
     ensures exact { (named : List ℕ → Option (List ℕ)) (bytes : List ℕ) → F.named files.old ≡ Some named
         → I.left input.old ≡ Some bytes
-        → (due : Done)
-        → IsDue (record { words = map string_bytes words.items; named = named; input = bytes }) due
         → (¬ Rose (F.faults files.old) (F.faults files.new))
         → (¬ Rose (I.faults input.old) (I.faults input.new))
         → (¬ Rose (O.faults output.old) (O.faults output.new))
         → (¬ Rose (E.faults errors.old) (E.faults errors.new))
-        → ComesTo bytes due (I.left input.new) (O.taken output.old) (O.taken output.new)
+        → ComesToDue (IsDue (record { words = map string_bytes words.items; named = named; input = bytes })) bytes
+        (I.left input.new) (O.taken output.old) (O.taken output.new)
         (E.taken errors.old) (E.taken errors.new) result }
-
-    // Something is then due.
-    ensures due { (named : List ℕ → Option (List ℕ)) (bytes : List ℕ) → F.named files.old ≡ Some named
-        → I.left input.old ≡ Some bytes
-        → (¬ Rose (F.faults files.old) (F.faults files.new))
-        → (¬ Rose (I.faults input.old) (I.faults input.new))
-        → (¬ Rose (O.faults output.old) (O.faults output.new))
-        → (¬ Rose (E.faults errors.old) (E.faults errors.new)) → result ≢ Status.NoMemory
-        → (due : Done)
-        × IsDue (record { words = map string_bytes words.items; named = named; input = bytes }) due }
 
     // Where all terms of a named file are answered, nothing is left of it.
     ensures whole { (named : List ℕ → Option (List ℕ)) (task : Task) (file terms : List ℕ)
