@@ -23,10 +23,10 @@ mod Counting
 mod Leaving
 mod Exact
 mod Ended
+mod OneStep
+mod ChosenTerms
 mod Begun
 mod NextTerms
+mod Things
 mod Made
-mod Stepped
-mod Following
 mod ReadToEnd
-mod Chosen

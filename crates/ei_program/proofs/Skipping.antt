@@ -1,13 +1,15 @@
 -- Blanks and comments of the bytes that are taken, a piece at a time.
-use Rattle.std.proofs.Common.{◌≡◌, ◌≢◌, ℕ, ◌+◌, ◌-◌, ◌<◌, ◌≤◌, Bool, true, false, List, [], ◌++◌, length, drop, take, arith, Option, Some, inl, inr, refl, sym, ◌∙◌, ap, subst, slice_get, length-drop, length-append, drop-drop}
-use Rattle.std.proofs.lemmas.List.{drop-append-le}
+use Rattle.std.proofs.Common.{◌≡◌, ◌≢◌, ℕ, ◌+◌, ◌-◌, ◌<◌, ◌≤◌, Bool, true, false, List, [], ◌++◌, length, drop, take, arith, Option, Some, inl, inr, refl, sym, ◌∙◌, ap, subst, slice_get, length-drop, length-append, append-nil, append_assoc, drop-drop}
+use Rattle.std.proofs.lemmas.List.{drop-append-le, length-take}
 use Rattle.term_lex.specs.Gaps.{IsSkipped, IsGap}
 use Rattle.term_lex.proofs.Gaps.{Passed, gap_whole, none_passed}
 use Rattle.term_input.specs.Places.{IsNextByte, NothingLeft, StandsNext}
-use Rattle.term_input.specs.Streams.{Held, taken_count, MayTake, IsTaken}
+use Rattle.term_input.specs.Streams.{Held, taken_count, MayTake, Takes, IsTaken}
 use Rattle.term_input.proofs.Gaps.{get_front}
 use Rattle.term_input.proofs.Inputs.{front_take}
-use Rattle.ei_program.specs.Reading.{readable, SkipsTo}
+use Rattle.term_input.proofs.Streams.{more_taken, given_up}
+use Rattle.ei_program.specs.Reading.{readable, Goes, SkipsTo}
+use Rattle.ei_program.proofs.Taken.{drop_take}
 
 -- the bytes that can be read behind a place
 abbrev pub text_behind : (limit place : ℕ) → List ℕ → List ℕ
@@ -68,3 +70,91 @@ module _ (limit place : ℕ) (taken : List ℕ) (within : place ≤ length (take
   nothing_behind gap inside p e =
       let all = gap_whole (text_behind limit place taken) inside (subst (λ n. Passed (text_behind limit place taken) n inside) e p) in
       record { gap = length (text_behind limit place taken); skipped = all; behind = omega (arith, length_behind, within) }
+
+-- ---- the pieces of a gap
+
+-- all between the two places is skipped, and the later one lies within what may be read
+abbrev pub GapTo : Bool → (old new : Held) → List ℕ → Type 0
+GapTo inside old new taken = AreSkipped inside old new taken × (new.place ≤ length (take old.limit taken))
+
+-- what is held where the bytes before a place are given up
+abbrev pub given : Held → ℕ → Held
+given held place = record held { bytes = drop (place - held.place) held.bytes; place = place }
+
+-- nothing is skipped yet
+pub gap_begun : (a : Option (List ℕ)) (old : Held) → old.place ≤ old.limit → Goes a a old old (GapTo false old old)
+gap_begun a old within before taken is =
+    let same : taken ≡ taken ++ [] = sym (append-nil taken) in
+    let none : 0 ≡ old.place - old.place = omega arith in
+    let passed = subst (λ n. Passed (text_behind old.limit old.place (taken ++ [])) n false) none (none_passed (text_behind old.limit old.place (taken ++ []))) in
+    let place : old.place ≤ length (take old.limit taken) = omega (arith, within, is.place, length-take old.limit taken) in
+    ([], subst (λ bs. IsTaken before a bs old) same is, (passed, subst (λ bs. old.place ≤ length (take old.limit bs)) same place))
+
+module _ (a b : Option (List ℕ)) (old mid : Held) (inside : Bool) (limit : mid.limit ≡ old.limit) (from : old.place ≤ mid.place) (gone : Goes a b old mid (GapTo inside old mid)) where
+  readable_behind : (before : Option (List ℕ)) (taken : List ℕ) → IsTaken before b taken mid → drop (mid.place - old.place) (text_behind old.limit old.place taken) ≡ readable mid
+  readable_behind before taken is =
+      let parts : old.place + (mid.place - old.place) ≡ mid.place = omega (arith, from) in
+      drop-drop (mid.place - old.place) old.place (take old.limit taken)
+      ∙ ap (λ n. drop n (take old.limit taken)) parts
+      ∙ ap (λ n. drop mid.place (take n taken)) (sym limit)
+      ∙ drop_take mid.place mid.limit taken
+      ∙ ap (take (mid.limit - mid.place)) (sym is.bytes)
+
+  readable_length : (before : Option (List ℕ)) (taken : List ℕ) → IsTaken before b taken mid → length (readable mid) ≡ length (take old.limit taken) - mid.place
+  readable_length before taken is =
+      let behind = ap length (readable_behind before taken is) in
+      omega (arith, behind, from, length-drop (mid.place - old.place) (text_behind old.limit old.place taken), length-drop old.place (take old.limit taken))
+
+  module _ (n place : ℕ) (place_is : place ≡ mid.place + n) (fits : n ≤ length (readable mid)) where
+    -- bytes of the gap are given up
+    gives_up : (before : Option (List ℕ)) (taken : List ℕ) → IsTaken before b taken mid → IsTaken before b taken (given mid place)
+    gives_up before taken is = given_up before b taken mid place is (omega (arith, place_is)) (omega (arith, place_is, fits, length-take (mid.limit - mid.place) mid.bytes))
+
+    pub given_within : place ≤ mid.place + length mid.bytes
+    given_within = omega (arith, place_is, fits, length-take (mid.limit - mid.place) mid.bytes)
+
+    further : mid.place - old.place + n ≡ place - old.place
+    further = omega (arith, place_is, from)
+
+    -- more of it is skipped
+    pub gap_goes_on : (now : Bool) → ((text : List ℕ) (len : ℕ) → drop len text ≡ readable mid → Passed text len inside → Passed text (len + n) now) → Goes a b old (given mid place) (GapTo now old (given mid place))
+    gap_goes_on now passed before taken is =
+        let (more, there, (p, le)) = gone before taken is in
+        let all = taken ++ more in
+        let behind = passed (text_behind old.limit old.place all) (mid.place - old.place) (readable_behind before all there) p in
+        (more, gives_up before all there, (subst (λ k. Passed (text_behind old.limit old.place all) k now) further behind, omega (arith, place_is, fits, le, readable_length before all there)))
+
+    -- something stands behind it
+    pub gap_stands : n < length (readable mid) → ((text : List ℕ) (len : ℕ) → drop len text ≡ readable mid → Passed text len inside → IsGap text (len + n)) → Goes a b old (given mid place) (SkipsTo true old (given mid place))
+    gap_stands lt ends before taken is =
+        let (more, there, (p, le)) = gone before taken is in
+        let all = taken ++ more in
+        let gap = ends (text_behind old.limit old.place all) (mid.place - old.place) (readable_behind before all there) p in
+        let within : old.place ≤ length (take old.limit all) = omega (arith, from, le) in
+        let short : mid.place - old.place + n < length (text_behind old.limit old.place all) = omega (arith, lt, from, le, readable_length before all there, length-drop old.place (take old.limit all)) in
+        (more, gives_up before all there, stands_behind old.limit old.place all within (mid.place - old.place + n) place gap short (omega (arith, place_is, from)))
+
+    -- nothing is left, and no more can be taken
+    pub gap_ends : (now : Bool) → n ≡ length (readable mid) → ((text : List ℕ) (len : ℕ) → drop len text ≡ readable mid → Passed text len inside → Passed text (len + n) now) → ¬ MayTake (given mid place) → Goes a b old (given mid place) (SkipsTo false old (given mid place))
+    gap_ends now all_passed passed no_more before taken is =
+        let (more, there, (p, le)) = gone before taken is in
+        let all = taken ++ more in
+        let behind = passed (text_behind old.limit old.place all) (mid.place - old.place) (readable_behind before all there) p in
+        let within : old.place ≤ length (take old.limit all) = omega (arith, from, le) in
+        let whole : mid.place - old.place + n ≡ length (text_behind old.limit old.place all) = omega (arith, all_passed, from, le, readable_length before all there, length-drop old.place (take old.limit all)) in
+        (more, gives_up before all there, (nothing_behind old.limit old.place all within (mid.place - old.place + n) now behind whole, omega (arith, place_is, all_passed, le, readable_length before all there), no_more))
+
+-- more is taken behind it
+pub gap_more : (a b c : Option (List ℕ)) (old mid new : Held) (inside : Bool) → old.place ≤ mid.place → Goes a b old mid (GapTo inside old mid) → Takes b c mid new → Goes a c old new (GapTo inside old new)
+gap_more a b c old mid new inside from gone t before taken is =
+    let (more, there, (p, le)) = gone before taken is in
+    let all = taken ++ more in
+    let further = more_taken before b c all mid new there t in
+    let parts = append_assoc taken more t.taken in
+    let (others, longer) = front_take old.limit all t.taken in
+    let within : old.place ≤ length (take old.limit all) = omega (arith, from, le) in
+    let fits : mid.place - old.place ≤ length (text_behind old.limit old.place all) = omega (arith, le, from, length-drop old.place (take old.limit all)) in
+    let passed = skipped_more inside old.limit old.place (mid.place - old.place) all t.taken within fits p in
+    let place : new.place ≤ length (take old.limit (all ++ t.taken)) = omega (arith, le, t.place, ap length longer, length-append (take old.limit all) others) in
+    let holds : GapTo inside old new (all ++ t.taken) = (subst (λ k. Passed (text_behind old.limit old.place (all ++ t.taken)) (k - old.place) inside) (sym t.place) passed, place) in
+    (more ++ t.taken, subst (λ bs. IsTaken before c bs new) parts further, subst (GapTo inside old new) parts holds)

@@ -31,16 +31,17 @@ pub record HasOutcome (Left : Outcome → List ℕ → Type 0) (out_old out_new 
   pub leaves : LeavesOn (Left outcome) out_old out_new
   pub told : IsToldOn (told_of outcome) err_old err_new status
 
--- all of this was done: it is left of the input, written and told
-abbrev pub IsDone : List ℕ → Done → (left out_old out_new err_old err_new : Option (List ℕ)) → Status → Type 0
-IsDone input done left out_old out_new err_old err_new status =
-    IsLeft input done.rest left × Appends out_old out_new (bytes_of done.lines)
-    × IsToldOn done.told err_old err_new status
+-- all of this was done: what is left of the input, what is written, and what is told
+pub record IsDone (input : List ℕ) (done : Done) (left out_old out_new err_old err_new : Option (List ℕ))
+    (status : Status) : Type 0 where
+  pub rest : IsLeft input done.rest left
+  pub lines : Appends out_old out_new (bytes_of done.lines)
+  pub status : status ≡ done.told.status
+  pub message : Appends err_old err_new done.told.message
 
--- memory ran out; or something is due, nothing else is, and it was done
-abbrev pub ComesToDue : (Done → Type 0) → List ℕ → (left out_old out_new err_old err_new : Option (List ℕ))
+-- memory ran out, or something is due, and all of it was done
+abbrev pub DoesDue : (Done → Type 0) → List ℕ → (left out_old out_new err_old err_new : Option (List ℕ))
     → Status → Type 0
-ComesToDue IsDue input left out_old out_new err_old err_new status =
+DoesDue Due input left out_old out_new err_old err_new status =
     (status ≡ statuses.NoMemory)
-    ⊎ ((done : Done) × IsDue done × ((other : Done) → IsDue other → other ≡ done)
-    × IsDone input done left out_old out_new err_old err_new status)
+    ⊎ ((done : Done) × Due done × IsDone input done left out_old out_new err_old err_new status)

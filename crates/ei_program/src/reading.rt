@@ -1,5 +1,5 @@
 // What comes next in an input: a term, or the end.
-ghost use Rattle.std.specs.Prelude.{◌≡◌, ◌≢◌, ◌↔◌, ◌≤◌, [], true, IfOk, IfSome, OnOk};
+ghost use Rattle.std.specs.Prelude.{◌≡◌, ◌≢◌, ◌↔◌, ◌≤◌, [], length, true, IfOk, OnOk};
 ghost use Rattle.symbol_table.specs.Table.{Keeps, names_of};
 ghost use Rattle.term_input.specs.Ending.{BytesEnded};
 ghost use Rattle.term_input.specs.Streams.{MayTake};
@@ -103,27 +103,26 @@ fn end_behind(stream: &Stream) -> End
     }
 }
 
-/// The end at a term with a fault that begins with the first byte that is held, or `None` where no `usize` counts to
-/// the fault's byte, which lies in the window.
-fn end_at(stream: &Stream, fault: Fault) -> Option<End>
-    ensures { IfSome result (EndsSo stream.now fault) }
+/// The end at a term with a fault that begins with the first byte that is held.
+fn end_at(stream: &Stream, fault: Fault) -> End
+    requires { fault.byte ≤ length (window_of stream.now) }
+    ensures { EndsSo stream.now fault result }
 {
     let window = window(stream);
     let from = stream.place() as usize;
     if !bytes_ended(window, fault) || window.len() == stream.bytes().len() {
-        let byte = from.checked_add(fault.byte)?;
-        return Some(End::Refused(Fault {
+        return End::Refused(Fault {
             kind: fault.kind,
-            byte,
-        }));
+            byte: from + fault.byte,
+        });
     }
     if window.len() < WINDOW_BYTES {
-        return Some(End::Long);
+        return End::Long;
     }
-    Some(End::Refused(Fault {
+    End::Refused(Fault {
         kind: FaultKind::TermLong,
         byte: from,
-    }))
+    })
 }
 
 /// Takes more, until a dot that can end the term was taken or no more bytes can change how it is read.
@@ -169,8 +168,7 @@ fn next_thing<I: Source>(
             Err(ReadError::NoMemory) => return Err(NoMemory),
             Err(ReadError::Refused(fault)) => {
                 if !may_change(stream) {
-                    let end = end_at(stream, fault).ok_or(NoMemory)?;
-                    return Ok(Next::End(end));
+                    return Ok(Next::End(end_at(stream, fault)));
                 }
             }
         }
@@ -196,6 +194,7 @@ pub fn next_term<I: Source>(
     ensures count { IsCounted (I.faults input.old) (I.faults input.new) stream.old stream.new }
     ensures through { I.through input.new ≡ I.through input.old }
 {
+    symbols.has_one_number_each();
     if skip_gap(stream, input)? {
         next_thing(alloc, syntax, symbols, stream, input)
     } else {

@@ -9,7 +9,7 @@ ghost use Rattle.ei_program.specs.Definitions.{Definitions, Defines, BreaksNone,
 ghost use Rattle.ei_program.specs.Loading.{IsReady};
 ghost use Rattle.ei_program.specs.Answering.{AnswersText, TextLeft};
 ghost use Rattle.ei_program.specs.Run.{IsDue, Leaves};
-ghost use Rattle.ei_program.specs.Telling.{HasOutcome, ComesToDue};
+ghost use Rattle.ei_program.specs.Telling.{HasOutcome, DoesDue};
 
 use crate::answer::answer_input;
 use crate::ready::Ready;
@@ -38,14 +38,12 @@ pub fn answer_terms<I: Source, O: Sink, E: Sink>(
         (O.taken output.old) (O.taken output.new) (E.taken errors.old) (E.taken errors.new) result }
 
     // Where no fault count rose and memory was found, all terms are answered, up to the end of the input's reading.
-    // There is one such answer.
     ensures exact { (bytes : List ℕ) → I.left input.old ≡ Some bytes
         → (¬ Rose (I.faults input.old) (I.faults input.new))
         → (¬ Rose (O.faults output.old) (O.faults output.new))
         → (¬ Rose (E.faults errors.old) (E.faults errors.new))
-        → ComesToDue (AnswersText settings.now (definitions_of ready.old) None bytes) bytes
-        (I.left input.new) (O.taken output.old) (O.taken output.new)
-        (E.taken errors.old) (E.taken errors.new) result }
+        → DoesDue (AnswersText settings.now (definitions_of ready.old) None bytes) bytes (I.left input.new)
+        (O.taken output.old) (O.taken output.new) (E.taken errors.old) (E.taken errors.new) result }
 
     // The equations are as before, and what is declared and included is.
     ensures same { ready.new.regular ≡ ready.old.regular }
@@ -87,17 +85,17 @@ pub fn ei<F: Files, I: Source, O: Sink, E: Sink>(
         (F.rest files.new) (I.left input.new))
         (O.taken output.old) (O.taken output.new) (E.taken errors.old) (E.taken errors.new) result }
 
-    // Where no fault count rose and memory was found, one thing is due by the words, the files and the input, and the
-    // run comes to it.
+    // Where no fault count rose and memory was found, something is due by the words, the files and the input, which is
+    // one thing at most by the law of `one_thing_is_due`, and all of it was done.
     ensures exact { (named : List ℕ → Option (List ℕ)) (bytes : List ℕ) → F.named files.old ≡ Some named
         → I.left input.old ≡ Some bytes
         → (¬ Rose (F.faults files.old) (F.faults files.new))
         → (¬ Rose (I.faults input.old) (I.faults input.new))
         → (¬ Rose (O.faults output.old) (O.faults output.new))
         → (¬ Rose (E.faults errors.old) (E.faults errors.new))
-        → ComesToDue (IsDue (record { words = map string_bytes words.items; named = named; input = bytes })) bytes
-        (I.left input.new) (O.taken output.old) (O.taken output.new)
-        (E.taken errors.old) (E.taken errors.new) result }
+        → DoesDue (IsDue (record { words = map string_bytes words.items; named = named; input = bytes })) bytes
+        (I.left input.new) (O.taken output.old) (O.taken output.new) (E.taken errors.old) (E.taken errors.new)
+        result }
 
     // Where all terms of a named file are answered, nothing is left of it.
     ensures whole { (named : List ℕ → Option (List ℕ)) (task : Task) (file terms : List ℕ)

@@ -5,3 +5,6 @@ pub mod Windows
 pub mod Fronts
 pub mod TermReaders
 pub mod Streams
+pub mod StandmathOutlines
+pub mod ListOutlines
+pub mod FaultBytes

@@ -110,7 +110,8 @@ impl Stream {
 
     /// The place in the input of the first byte that is held.
     pub fn place(&self) -> u64
-        ensures { result ≡ self.now.place }
+        ensures place { result ≡ self.now.place }
+        ensures within { result ≤ 2 ^ 40 + 1 }
     {
         self.place
     }
