@@ -20,14 +20,14 @@ module _ (before now : ℕ) (mid left : Option (List ℕ)) (old new : Held) (c :
 
   fails_open : (state : SourceState) → old.state ≡ state → old.state ≢ Failed → new.state ≡ Failed → Rose before now
   fails_open Open is sound fails = c.failed (is, fails)
-  fails_open AtEnd is sound fails = absurd (sound (sym (kept (λ open. apart (sym is ∙ open))) ∙ fails))
+  fails_open AtEnd is sound fails = absurd (sound (sym (kept (λ is_open. apart (sym is ∙ is_open))) ∙ fails))
     where
       apart : AtEnd ≡ Open → ⊥
       apart e = cc (e)
   fails_open Failed is sound fails = absurd (sound is)
 
   not_open : old.state ≡ Failed → old.state ≢ Open
-  not_open is open = let e : Failed ≡ Open = sym is ∙ open in cc (e)
+  not_open is is_open = let e : Failed ≡ Open = sym is ∙ is_open in cc (e)
 
   -- the count of one taking
   pub counted_take : IsCounted before now old new
@@ -86,7 +86,6 @@ module _ (mid left : Option (List ℕ)) (old new : Held) (t : Takes mid left old
       open_before = ap open_count may.0
 
       by_state : (state : SourceState) → new.state ≡ state → to_take new < to_take old
-      unfolding to_take
       by_state Open is = let some = t.some may is in let one : open_count new.state ≡ 1 = ap open_count is in omega (arith, some, one, open_before, taken_more, t.limit, t.within, may.1)
       by_state AtEnd is = let none : open_count new.state ≡ 0 = ap open_count is in omega (arith, none, open_before, taken_more, t.limit)
       by_state Failed is = let none : open_count new.state ≡ 0 = ap open_count is in omega (arith, none, open_before, taken_more, t.limit)
@@ -111,7 +110,6 @@ module _ (old new : Held) (f : IsFarther old new) (limit : new.limit ≡ old.lim
       open_before = ap open_count may.0
 
       by_more : (length old.bytes < length new.bytes) ⊎ (new.state ≢ Open) → to_take new < to_take old
-      unfolding to_take
       by_more (inl more) = omega (arith, more, open_before, most_open new.state, f.place, limit, may.1)
       by_more (inr other) = omega (arith, open_before, none_open new.state other, f.place, f.more, limit)
 

@@ -30,3 +30,4 @@ mod NextTerms
 mod Things
 mod Made
 mod ReadToEnd
+mod Headline
