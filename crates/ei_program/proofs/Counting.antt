@@ -7,7 +7,7 @@ use Rattle.term_input.specs.Streams.{Held, taken_count, MayTake, Takes, HasFaile
 use Rattle.term_input.proofs.Streams.{more_taken, given_up}
 use Rattle.ei_program.specs.Reading.{Goes, IsCounted, IsFarther}
 
-state_of : Held → SourceState
+abbrev state_of : Held → SourceState
 state_of held = held.state
 
 -- a source that did not say that it is open is not read
@@ -64,13 +64,13 @@ counted_same count old new limit state = record {
 
 -- ---- how much can be taken still
 
-open_count : SourceState → ℕ
+abbrev open_count : SourceState → ℕ
 open_count Open = 1
 open_count AtEnd = 0
 open_count Failed = 0
 
 -- the bytes that may be taken still, and one more for the end of an open source
-pub to_take : Held → ℕ
+abbrev pub to_take : Held → ℕ
 to_take held = (held.limit + 1 - taken_count held) + open_count held.state
 
 module _ (mid left : Option (List ℕ)) (old new : Held) (t : Takes mid left old new) (may : MayTake old) where
@@ -79,7 +79,6 @@ module _ (mid left : Option (List ℕ)) (old new : Held) (t : Takes mid left old
 
   -- a taking leaves less to be taken
   pub takes_less : to_take new < to_take old
-  unfolding to_take
   takes_less = by_state new.state refl
     where
       open_before : open_count old.state ≡ 1
@@ -103,7 +102,6 @@ module _ (old new : Held) (f : IsFarther old new) (limit : new.limit ≡ old.lim
   none_open Failed other = refl
 
   pub farther_less : to_take new < to_take old
-  unfolding to_take
   farther_less = by_more f.some
     where
       open_before : open_count old.state ≡ 1

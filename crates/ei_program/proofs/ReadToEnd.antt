@@ -17,7 +17,7 @@ use Rattle.ei_program.specs.Answering.{IsTold, rest_of, AnswersText, TextLeft, F
 abbrev pub IsAllAnswered : Outcome → Type 0
 IsAllAnswered outcome = (outcome ≡ Answered) ⊎ (outcome ≡ Questions)
 
-status_in : Told → Status
+abbrev status_in : Told → Status
 status_in told = told.status
 
 -- only a text that is read whole is told so
