@@ -37,7 +37,7 @@ lines_front Fits one (x ∷ xs) more (l ∷ ls) (m ∷ ms) p q =
     (rest, cc (same, others))
 
 -- what answers the first terms of a text is a front of what answers all
-first_answered : (settings : Settings) (d : Definitions) → HasDistinctNames d.names → (source : Option (List ℕ)) (text : List ℕ) (lines : List (List ℕ)) (done : Done) → AnswersFirst settings d text lines → AnswersText settings d source text done → IsFront lines done.lines
+pub first_answered : (settings : Settings) (d : Definitions) → HasDistinctNames d.names → (source : Option (List ℕ)) (text : List ℕ) (lines : List (List ℕ)) (done : Done) → AnswersFirst settings d text lines → AnswersText settings d source text done → IsFront lines done.lines
 first_answered settings d distinct source text lines done p q =
     let (more, longer) = first_front (ReadsOne settings.syntax d.names) BytesEnded (term_reader settings.syntax d.names distinct) settings.input_bytes text 0 p.last p.terms q.terms q.end p.read q.read in
     lines_front (IsLine settings d) (one_line settings d) p.terms more lines done.lines p.fit (subst (λ xs. AreLines (IsLine settings d) xs done.lines) longer q.fit)

@@ -20,14 +20,14 @@ module _ (before now : ℕ) (mid left : Option (List ℕ)) (old new : Held) (c :
 
   fails_open : (state : SourceState) → old.state ≡ state → old.state ≢ Failed → new.state ≡ Failed → Rose before now
   fails_open Open is sound fails = c.failed (is, fails)
-  fails_open AtEnd is sound fails = absurd (sound (sym (kept (λ opened. apart (sym is ∙ opened))) ∙ fails))
+  fails_open AtEnd is sound fails = absurd (sound (sym (kept (λ is_open. apart (sym is ∙ is_open))) ∙ fails))
     where
       apart : AtEnd ≡ Open → ⊥
       apart e = cc (e)
   fails_open Failed is sound fails = absurd (sound is)
 
   not_open : old.state ≡ Failed → old.state ≢ Open
-  not_open is opened = let e : Failed ≡ Open = sym is ∙ opened in cc (e)
+  not_open is is_open = let e : Failed ≡ Open = sym is ∙ is_open in cc (e)
 
   -- the count of one taking
   pub counted_take : IsCounted before now old new
@@ -70,7 +70,7 @@ open_count AtEnd = 0
 open_count Failed = 0
 
 -- the bytes that may be taken still, and one more for the end of an open source
-pub to_take : Held → ℕ
+abbrev pub to_take : Held → ℕ
 to_take held = (held.limit + 1 - taken_count held) + open_count held.state
 
 module _ (mid left : Option (List ℕ)) (old new : Held) (t : Takes mid left old new) (may : MayTake old) where
@@ -79,7 +79,6 @@ module _ (mid left : Option (List ℕ)) (old new : Held) (t : Takes mid left old
 
   -- a taking leaves less to be taken
   pub takes_less : to_take new < to_take old
-  unfolding to_take
   takes_less = by_state new.state refl
     where
       open_before : open_count old.state ≡ 1
@@ -103,7 +102,6 @@ module _ (old new : Held) (f : IsFarther old new) (limit : new.limit ≡ old.lim
   none_open Failed other = refl
 
   pub farther_less : to_take new < to_take old
-  unfolding to_take
   farther_less = by_more f.some
     where
       open_before : open_count old.state ≡ 1

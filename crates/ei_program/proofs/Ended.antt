@@ -41,7 +41,7 @@ pub known_rest : (before left : Option (List ℕ)) (input taken : List ℕ) → 
 known_rest before left input taken is c = let C = λ (o : Option (List ℕ)). Consumes o left taken in consumed_rest left input taken (subst C is c)
 
 -- what is told where reading ended so, of lines of which some begin with `?` or none
-told_at : End → Bool → Told
+abbrev told_at : End → Bool → Told
 told_at ends.Whole true = told_of Questions
 told_at ends.Whole false = told_of AllAnswered
 told_at (ends.Refused fault) any = told_of (TermRefused fault)

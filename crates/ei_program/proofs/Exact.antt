@@ -51,15 +51,15 @@ module _ (Due : Done → Type 0) (input : List ℕ) (left out_old out_new err_ol
   no_memory whole told = elim (told_whole (told_of (Stopped NoMemory)) err_old err_new status whole told) [ inl none ↦ inl none | inr p ↦ inl p.0 ]
 
 -- where no port failed, a run does what is due
-pub comes_to : (given : Given) (left out_old out_new err_old err_new : Option (List ℕ)) (status : Status) (outcome : Outcome) → LeavesOn (Leaves given left outcome) out_old out_new
+pub comes_to : (given : Given) (of_file left out_old out_new err_old err_new : Option (List ℕ)) (status : Status) (outcome : Outcome) → LeavesOn (Leaves given of_file left outcome) out_old out_new
     → outcome ≢ Stopped ReadFailed → outcome ≢ Stopped WriteFailed → IsToldOn (told_of outcome) err_old err_new status
     → (outcome ≢ Stopped WriteFailed → status ≢ statuses.WriteFailed) → DoesDue (IsDue given) given.input left out_old out_new err_old err_new status
-comes_to given left out_old out_new err_old err_new status outcome l read write told whole = by outcome l read write told (whole write)
+comes_to given of_file left out_old out_new err_old err_new status outcome l read write told whole = by outcome l read write told (whole write)
   where
     does : (o : Outcome) → LeavesOn (IsDueBy (IsDue given) given.input left o) out_old out_new → status ≢ statuses.WriteFailed → IsToldOn (told_of o) err_old err_new status → DoesDue (IsDue given) given.input left out_old out_new err_old err_new status
     does o l whole told = does_due (IsDue given) given.input left out_old out_new err_old err_new status o l whole told
 
-    by : (o : Outcome) → LeavesOn (Leaves given left o) out_old out_new → o ≢ Stopped ReadFailed → o ≢ Stopped WriteFailed → IsToldOn (told_of o) err_old err_new status → status ≢ statuses.WriteFailed
+    by : (o : Outcome) → LeavesOn (Leaves given of_file left o) out_old out_new → o ≢ Stopped ReadFailed → o ≢ Stopped WriteFailed → IsToldOn (told_of o) err_old err_new status → status ≢ statuses.WriteFailed
         → DoesDue (IsDue given) given.input left out_old out_new err_old err_new status
     by (Stopped NoMemory) l read write told whole = no_memory (IsDue given) given.input left out_old out_new err_old err_new status whole told
     by (Stopped ReadFailed) l read write told whole = absurd (read refl)

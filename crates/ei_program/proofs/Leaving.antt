@@ -4,7 +4,7 @@ use Rattle.symbol_table.specs.Table.{IsFront}
 use Rattle.command_line.specs.declared.task.Mode.{Mode}
 use Rattle.command_line.specs.declared.task.Mode.TheVariants.{Answer, Check}
 use Rattle.command_line.specs.declared.task.Task.{Task}
-use Rattle.command_line.specs.Asked.{Asks}
+use Rattle.command_line.specs.Asked.{Asks, IsCommandLine}
 use Rattle.ei_program.specs.declared.settings.Settings.{Settings}
 use Rattle.ei_program.specs.declared.stop.Stop.TheVariants.{NoMemory, ReadFailed, WriteFailed}
 use Rattle.ei_program.specs.declared.outcome.Outcome.{Outcome}
@@ -25,8 +25,13 @@ Loads syntax found d = (file : List ℕ) × (found ≡ Some file) × Defines syn
 
 -- an answer of which something is due leaves what is due
 abbrev pub LeavesDue : Given → Option (List ℕ) → Outcome → List ℕ → Type 0
-LeavesDue given left outcome written =
-    (done : Done) × IsDue given done × (done.told ≡ told_of outcome) × IsLeft given.input done.rest left × (written ≡ bytes_of done.lines)
+LeavesDue given of_input outcome written =
+    (done : Done) × IsDue given done × (done.told ≡ told_of outcome) × IsLeft given.input done.rest of_input × (written ≡ bytes_of done.lines)
+
+-- words that are no command line
+pub refused_words : (given : Given) (of_file of_input : Option (List ℕ)) → ¬ IsCommandLine given.words → of_input ≡ Some given.input → Leaves given of_file of_input BadWords []
+refused_words given of_file of_input no is =
+    (ended_early (told_of BadWords), record { result = Err (told_of BadWords); comes = inl (told_of BadWords, (no, refl), refl); is = refl }, refl, is, refl)
 
 module _ (given : Given) (task : Task) (name : List ℕ) (terms : Option (List ℕ)) (asks : Asks given.words task name terms) where
   abbrev command : Command
@@ -38,22 +43,22 @@ module _ (given : Given) (task : Task) (name : List ℕ) (terms : Option (List �
   ends_early : (told : Told) → HasDefinitions given command (Err told) → IsDue given (ended_early told)
   ends_early told first = record { result = Err told; comes = inr (command, asks, inl (told, first, refl)); is = refl }
 
-  pub not_accepted : (left : Option (List ℕ)) (outcome : Outcome) → left ≡ Some given.input → IsLoaded task.syntax (given.named name) (Err outcome) → Leaves given left outcome []
-  not_accepted left (FileRefused fault) is (file, found, why) =
+  pub not_accepted : (of_file of_input : Option (List ℕ)) (outcome : Outcome) → of_input ≡ Some given.input → IsLoaded task.syntax (given.named name) (Err outcome) → Leaves given of_file of_input outcome []
+  not_accepted of_file of_input (FileRefused fault) is (file, found, why) =
       let told = told_of (FileRefused fault) in
       (ended_early told, ends_early told (inr (file, found, inl (fault, why, refl))), refl, is, refl)
-  not_accepted left (Broken breaks rules) is (file, d, found, defines, broken) =
+  not_accepted of_file of_input (Broken breaks rules) is (file, d, found, defines, broken) =
       let told = told_of (Broken breaks rules) in
       let why = record { definitions = d; defines = defines; breaks = breaks; listed = broken.listed; some = broken.some; status = refl; message = broken.told } in
       (ended_early told, ends_early told (inr (file, found, inr why)), refl, is, refl)
-  not_accepted left (Stopped NoMemory) is l = ([], inl refl, refl)
-  not_accepted left (Stopped ReadFailed) is l = inl (is, refl)
-  not_accepted left (Stopped WriteFailed) is l = absurd l
-  not_accepted left Answered is l = absurd l
-  not_accepted left Questions is l = absurd l
-  not_accepted left BadWords is l = absurd l
-  not_accepted left (TermRefused fault) is l = absurd l
-  not_accepted left InputLong is l = absurd l
+  not_accepted of_file of_input (Stopped NoMemory) is l = ([], inl refl, refl)
+  not_accepted of_file of_input (Stopped ReadFailed) is l = inl (is, refl)
+  not_accepted of_file of_input (Stopped WriteFailed) is l = absurd l
+  not_accepted of_file of_input Answered is l = absurd l
+  not_accepted of_file of_input Questions is l = absurd l
+  not_accepted of_file of_input BadWords is l = absurd l
+  not_accepted of_file of_input (TermRefused fault) is l = absurd l
+  not_accepted of_file of_input InputLong is l = absurd l
 
   -- ---- a file that is accepted
 
@@ -70,11 +75,11 @@ module _ (given : Given) (task : Task) (name : List ℕ) (terms : Option (List �
 
     -- ---- the file is told of
 
-    module _ (mode : task.mode ≡ Check) (left : Option (List ℕ)) (is : left ≡ Some given.input) where
+    module _ (mode : task.mode ≡ Check) (of_file of_input : Option (List ℕ)) (is : of_input ≡ Some given.input) where
       one_line : bytes_of (accepted_line d ∷ []) ≡ ended (accepted_line d)
       one_line = append-nil (ended (accepted_line d))
 
-      pub told_of_file : (outcome : Outcome) (written : List ℕ) → IsChecked d outcome written → Leaves given left outcome written
+      pub told_of_file : (outcome : Outcome) (written : List ℕ) → IsChecked d outcome written → Leaves given of_file of_input outcome written
       told_of_file Answered written t =
           (checked d, due_by (checked d) (subst (λ m. DoesMode m given command d (Ok (checked d))) (sym mode) refl), refl, is, t ∙ sym one_line)
       told_of_file (Stopped WriteFailed) written t =
@@ -101,11 +106,11 @@ module _ (given : Given) (task : Task) (name : List ℕ) (terms : Option (List �
       begun_answers lines first = begun_by lines (subst (λ m. BeginsMode m given command d lines) (sym mode) (text, source, first))
 
 -- the terms that are answered came from the input
-module _ (given : Given) (task : Task) (name : List ℕ) (asks : Asks given.words task name None) (d : Definitions) (loads : Loads task.syntax (given.named name) d) (mode : task.mode ≡ Answer) (left : Option (List ℕ)) where
-  input_done : (outcome : Outcome) (written : List ℕ) → ((done : Done) × AnswersText (settings_of task) d None given.input done × (done.told ≡ told_of outcome) × IsLeft given.input done.rest left × (written ≡ bytes_of done.lines)) → LeavesDue given left outcome written
+module _ (given : Given) (task : Task) (name : List ℕ) (asks : Asks given.words task name None) (d : Definitions) (loads : Loads task.syntax (given.named name) d) (mode : task.mode ≡ Answer) (of_file of_input : Option (List ℕ)) where
+  input_done : (outcome : Outcome) (written : List ℕ) → ((done : Done) × AnswersText (settings_of task) d None given.input done × (done.told ≡ told_of outcome) × IsLeft given.input done.rest of_input × (written ≡ bytes_of done.lines)) → LeavesDue given of_input outcome written
   input_done outcome written (done, answers, told, rest, is) = (done, due_answers given task name None asks d loads mode given.input refl done answers, told, rest, is)
 
-  pub input_answered : (outcome : Outcome) (written : List ℕ) → TextLeft (settings_of task) d given.input left outcome written → Leaves given left outcome written
+  pub input_answered : (outcome : Outcome) (written : List ℕ) → TextLeft (settings_of task) d given.input of_input outcome written → Leaves given of_file of_input outcome written
   input_answered (Stopped NoMemory) written (lines, first, is) = (lines, inr (begun_answers given task name None asks d loads mode given.input refl lines first), is)
   input_answered (Stopped WriteFailed) written (lines, first, front) = (lines, inr (begun_answers given task name None asks d loads mode given.input refl lines first), front)
   input_answered (Stopped ReadFailed) written cut = inr (record {
@@ -113,9 +118,8 @@ module _ (given : Given) (task : Task) (name : List ℕ) (asks : Asks given.word
     definitions = d;
     text = given.input;
     asks = record { asks = asks; answers = mode; defines = defines given task name None asks d loads; source = refl };
-    of_text = left;
     cut = cut;
-    input = refl;
+    input = tt;
   })
   input_answered Answered written t = input_done Answered written t
   input_answered Questions written t = input_done Questions written t
@@ -126,16 +130,16 @@ module _ (given : Given) (task : Task) (name : List ℕ) (asks : Asks given.word
   input_answered (Broken breaks rules) written t = input_done (Broken breaks rules) written t
 
 -- they came from a named file
-module _ (given : Given) (task : Task) (name terms : List ℕ) (asks : Asks given.words task name (Some terms)) (d : Definitions) (loads : Loads task.syntax (given.named name) d) (mode : task.mode ≡ Answer) (left of_text : Option (List ℕ)) (is : left ≡ Some given.input) where
+module _ (given : Given) (task : Task) (name terms : List ℕ) (asks : Asks given.words task name (Some terms)) (d : Definitions) (loads : Loads task.syntax (given.named name) d) (mode : task.mode ≡ Answer) (of_file of_input : Option (List ℕ)) (is : of_input ≡ Some given.input) where
   -- the input is then as it was
   untouched_done : (text : List ℕ) (done : Done) → AnswersText (settings_of task) d None text done → AnswersText (settings_of task) d (Some terms) text (record done { rest = untouched })
   untouched_done text done a = record { terms = a.terms; end = a.end; read = a.read; fit = a.fit; told = a.told; rest = refl }
 
-  file_done : (text : List ℕ) → given.named terms ≡ Some text → (outcome : Outcome) (written : List ℕ) → ((done : Done) × AnswersText (settings_of task) d None text done × (done.told ≡ told_of outcome) × IsLeft text done.rest of_text × (written ≡ bytes_of done.lines)) → LeavesDue given left outcome written
+  file_done : (text : List ℕ) → given.named terms ≡ Some text → (outcome : Outcome) (written : List ℕ) → ((done : Done) × AnswersText (settings_of task) d None text done × (done.told ≡ told_of outcome) × IsLeft text done.rest of_file × (written ≡ bytes_of done.lines)) → LeavesDue given of_input outcome written
   file_done text found outcome written (done, answers, told, rest, bytes) =
       (record done { rest = untouched }, due_answers given task name (Some terms) asks d loads mode text found (record done { rest = untouched }) (untouched_done text done answers), told, is, bytes)
 
-  text_answered : (text : List ℕ) → given.named terms ≡ Some text → (outcome : Outcome) (written : List ℕ) → TextLeft (settings_of task) d text of_text outcome written → Leaves given left outcome written
+  text_answered : (text : List ℕ) → given.named terms ≡ Some text → (outcome : Outcome) (written : List ℕ) → TextLeft (settings_of task) d text of_file outcome written → Leaves given of_file of_input outcome written
   text_answered text found (Stopped NoMemory) written (lines, first, bytes) = (lines, inr (begun_answers given task name (Some terms) asks d loads mode text found lines first), bytes)
   text_answered text found (Stopped WriteFailed) written (lines, first, front) = (lines, inr (begun_answers given task name (Some terms) asks d loads mode text found lines first), front)
   text_answered text found (Stopped ReadFailed) written cut = inr (record {
@@ -143,7 +147,6 @@ module _ (given : Given) (task : Task) (name terms : List ℕ) (asks : Asks give
     definitions = d;
     text = text;
     asks = record { asks = asks; answers = mode; defines = defines given task name (Some terms) asks d loads; source = found };
-    of_text = of_text;
     cut = cut;
     input = is;
   })
@@ -156,13 +159,13 @@ module _ (given : Given) (task : Task) (name terms : List ℕ) (asks : Asks give
   text_answered text found (Broken breaks rules) written t = file_done text found (Broken breaks rules) written t
 
   -- a run that could not read the terms
-  not_read : (outcome : Outcome) (written : List ℕ) → (outcome ≡ Stopped ReadFailed) × (written ≡ []) → Leaves given left outcome written
-  not_read outcome written (failed, none) = subst (λ o. Leaves given left o written) (sym failed) (inl (is, none))
+  not_read : (outcome : Outcome) (written : List ℕ) → (outcome ≡ Stopped ReadFailed) × (written ≡ []) → Leaves given of_file of_input outcome written
+  not_read outcome written (failed, none) = subst (λ o. Leaves given of_file of_input o written) (sym failed) (inl (is, none))
 
-  pub file_answered : (outcome : Outcome) (written : List ℕ) → FileLeft (settings_of task) d (given.named terms) of_text outcome written → Leaves given left outcome written
+  pub file_answered : (outcome : Outcome) (written : List ℕ) → FileLeft (settings_of task) d (given.named terms) of_file outcome written → Leaves given of_file of_input outcome written
   file_answered outcome written l = by_found (given.named terms) refl l
     where
-      by_found : (found : Option (List ℕ)) → given.named terms ≡ found → FileLeft (settings_of task) d found of_text outcome written → Leaves given left outcome written
+      by_found : (found : Option (List ℕ)) → given.named terms ≡ found → FileLeft (settings_of task) d found of_file outcome written → Leaves given of_file of_input outcome written
       by_found (Some text) found (inl t) = text_answered text found outcome written t
       by_found (Some text) found (inr none) = not_read outcome written none
       by_found None found none = not_read outcome written none

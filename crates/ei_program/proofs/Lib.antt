@@ -31,3 +31,5 @@ mod Begun
 mod NextTerms
 mod Things
 mod Made
+mod ReadToEnd
+mod Headline

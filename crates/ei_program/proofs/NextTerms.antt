@@ -46,10 +46,10 @@ module _ (syntax : Syntax) (names : Table) (distinct : HasDistinctNames names) (
           apart both = cc (both)
 
       may : new.state ≡ Open → MayTake new
-      may opened = (opened, omega (arith, no_bytes new.bytes refl, place, limit, length-take old.limit taken))
+      may is_open = (is_open, omega (arith, no_bytes new.bytes refl, place, limit, length-take old.limit taken))
 
       by_state : (state : SourceState) → new.state ≡ state → IsAtEnd left
-      by_state Open opened = absurd (no_more (may opened))
+      by_state Open is_open = absurd (no_more (may is_open))
       by_state AtEnd ended = is.at_end ended
       by_state Failed failed = absurd (sound failed)
 

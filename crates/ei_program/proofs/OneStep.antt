@@ -5,6 +5,7 @@ use Rattle.std.proofs.lemmas.List.{length-take}
 use Rattle.eq_base.specs.Tree.{Tree}
 use Rattle.eq_base.specs.ReadHead.{ReadHead}
 use Rattle.eq_ports.specs.Moves.{AppendsFront}
+use Rattle.eq_ports.proofs.Known.{appends_none}
 use Rattle.symbol_table.specs.Table.{HasDistinctNames}
 use Rattle.term_input.specs.Ending.{BytesEnded}
 use Rattle.term_input.specs.TermReading.{ReadsOne}
@@ -21,7 +22,7 @@ use Rattle.ei_program.specs.declared.outcome.Outcome.{Outcome}
 use Rattle.ei_program.specs.declared.outcome.Outcome.TheVariants.{Stopped}
 use Rattle.ei_program.specs.Definitions.{Definitions}
 use Rattle.ei_program.specs.Lines.{IsQuestion, IsLine, ended}
-use Rattle.ei_program.specs.Reading.{Goes, TermNext}
+use Rattle.ei_program.specs.Reading.{end_of, Goes, TermNext, Settles}
 use Rattle.ei_program.specs.Answering.{TextLeft}
 use Rattle.ei_program.specs.Run.{LeavesOn}
 use Rattle.ei_program.specs.Stepping.{IsLineText, WritesText, Answers, StepLeft, IsOutcomeAt}
@@ -57,6 +58,14 @@ written_step settings d old new mid left out_old out_new t text (line, is, e) go
 written_step settings d old new mid left out_old out_new t text l goes (StoppedBy NoMemory) w = absurd w
 written_step settings d old new mid left out_old out_new t text l goes (StoppedBy ReadFailed) w = absurd w
 written_step settings d old new mid left out_old out_new t text l goes (End end) w = absurd w
+
+-- the input ends, and nothing is written
+pub ended_step : (settings : Settings) (d : Definitions) (old new : Held) (mid left out : Option (List ℕ)) (end : EndRead)
+    → Goes mid left old new (λ taken. TermNext settings.syntax d.names old.limit taken old.place (Err (end_of end)) × Settles settings.syntax d.names old new left end taken)
+    → StepLeft settings d old new mid left out out (End end)
+ended_step settings d old new mid left out end goes = λ before taken there.
+    let (more, behind, (next, settles)) = goes before taken there in
+    (more, behind, record { next = next; settles = settles; silent = appends_none out })
 
 -- ---- the answering goes on, or ends
 

@@ -83,14 +83,14 @@ module _ (syntax : Syntax) (names : Table) (before left : Option (List ℕ)) (ta
     settled_behind no_more no_failure = by_state held.state refl
       where
         past : held.state ≡ Open → held.limit < taken_count held
-        past opened = elim (cases_order (taken_count held) held.limit) [
-          | inl same ↦ absurd (no_more (opened, omega (arith, same)))
-          | inr (inl less) ↦ absurd (no_more (opened, omega (arith, less)))
+        past is_open = elim (cases_order (taken_count held) held.limit) [
+          | inl same ↦ absurd (no_more (is_open, omega (arith, same)))
+          | inr (inl less) ↦ absurd (no_more (is_open, omega (arith, less)))
           | inr (inr more) ↦ more
         ]
 
         by_state : (state : SourceState) → held.state ≡ state → TermNext syntax names held.limit (taken ++ rest) at r
-        by_state Open opened = past_limit (past opened)
+        by_state Open is_open = past_limit (past is_open)
         by_state AtEnd ended = at_end ended
         by_state Failed failed = absurd (no_failure failed)
 
@@ -103,7 +103,7 @@ module _ (syntax : Syntax) (names : Table) (before left : Option (List ℕ)) (ta
         long more = next_of_window (ReadsOne syntax names) BytesEnded held.limit taken rest (term_reader syntax names distinct) at held.place r le stands (omega (arith, more, count)) next
 
         open_end : held.state ≡ Open → TermNext syntax names held.limit (taken ++ rest) at r
-        open_end opened = elim (cases_order (length held.bytes) inputs.window_bytes) [
+        open_end is_open = elim (cases_order (length held.bytes) inputs.window_bytes) [
           | inr (inr more) ↦ long more
           | inl same ↦ short (omega (arith, same))
           | inr (inl less) ↦ short (omega (arith, less))
@@ -111,13 +111,13 @@ module _ (syntax : Syntax) (names : Table) (before left : Option (List ℕ)) (ta
           where
             short : length held.bytes ≤ inputs.window_bytes → TermNext syntax names held.limit (taken ++ rest) at r
             short fits = elim (cases_order (taken_count held) held.limit) [
-              | inl same ↦ absurd (no_change ((opened, omega (arith, same)), fits))
-              | inr (inl less) ↦ absurd (no_change ((opened, omega (arith, less)), fits))
+              | inl same ↦ absurd (no_change ((is_open, omega (arith, same)), fits))
+              | inr (inl less) ↦ absurd (no_change ((is_open, omega (arith, less)), fits))
               | inr (inr more) ↦ past_limit more
             ]
 
         by_state : (state : SourceState) → held.state ≡ state → TermNext syntax names held.limit (taken ++ rest) at r
-        by_state Open opened = open_end opened
+        by_state Open is_open = open_end is_open
         by_state AtEnd ended = at_end ended
         by_state Failed failed = absurd (no_failure failed)
 

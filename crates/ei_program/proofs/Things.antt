@@ -37,8 +37,8 @@ farther b c old mid new place more may t = record { place = t.place ∙ place; m
 
     by_state : (state : SourceState) → new.state ≡ state → (length old.bytes < length new.bytes) ⊎ (new.state ≢ Open)
     by_state Open is = let some = t.some may is in inl (omega (arith, some, more, longer))
-    by_state AtEnd is = inr (λ opened. let no : Open ≡ AtEnd = sym opened ∙ is in cc (no))
-    by_state Failed is = inr (λ opened. let no : Open ≡ Failed = sym opened ∙ is in cc (no))
+    by_state AtEnd is = inr (λ is_open. let no : Open ≡ AtEnd = sym is_open ∙ is in cc (no))
+    by_state Failed is = inr (λ is_open. let no : Open ≡ Failed = sym is_open ∙ is in cc (no))
 
 module _ (syntax : Syntax) (names : Table) (table : Table) (a b : Option (List ℕ)) (old mid : Held) (place_is : mid.place ≡ old.place) (limit : mid.limit ≡ old.limit) (gone : Goes a b old mid (λ taken. Unit {0})) where
   -- the window of what is held is that of the first place in all that was taken

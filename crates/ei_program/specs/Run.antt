@@ -105,20 +105,25 @@ pub record AsksFor (given : Given) (command : Command) (d : Definitions) (text :
   pub defines : HasDefinitions given command (Ok d)
   pub source : HasTerms given command.terms (Ok text)
 
--- what is left of the input, where this is left of the text with the terms
-abbrev pub InputLeft : Given → Option (List ℕ) → (of_text left : Option (List ℕ)) → Type 0
-InputLeft given None of_text left = left ≡ of_text
-InputLeft given (Some name) of_text left = left ≡ Some given.input
+-- what is left of the text with the terms: of the named file, or else of the input
+abbrev pub left_of_terms : Option (List ℕ) → (of_file of_input : Option (List ℕ)) → Option (List ℕ)
+left_of_terms (Some name) of_file of_input = of_file
+left_of_terms None of_file of_input = of_input
+
+-- the input is as it was, where the terms come from a named file
+abbrev pub IsInputKept : Given → Option (List ℕ) → (of_input : Option (List ℕ)) → Type 0
+IsInputKept given (Some name) of_input = of_input ≡ Some given.input
+IsInputKept given None of_input = Unit {0}
 
 -- a read of the terms failed behind a front of them, which was answered
-pub record IsStoppedShort (given : Given) (left : Option (List ℕ)) (written : List ℕ) : Type 0 where
+pub record IsStoppedShort (given : Given) (of_file of_input : Option (List ℕ)) (written : List ℕ) : Type 0 where
   pub command : Command
   pub definitions : Definitions
   pub text : List ℕ
   pub asks : AsksFor given command definitions text
-  pub of_text : Option (List ℕ)
-  pub cut : IsCutShort (settings_of command.task) definitions text of_text written
-  pub input : InputLeft given command.terms of_text left
+  pub cut : IsCutShort (settings_of command.task) definitions text
+      (left_of_terms command.terms of_file of_input) written
+  pub input : IsInputKept given command.terms of_input
 
 -- what a mode may have written before its end, in whole lines
 abbrev pub BeginsMode : Mode → Given → Command → Definitions → List (List ℕ) → Type 0
@@ -138,16 +143,17 @@ pub record HasBegun (given : Given) (lines : List (List ℕ)) : Type 0 where
 abbrev pub Begins : Given → List (List ℕ) → Type 0
 Begins given lines = (lines ≡ []) ⊎ HasBegun given lines
 
--- what is left of the input and written to the output, by the outcome: what is due, or a beginning of it
-abbrev pub Leaves : Given → Option (List ℕ) → Outcome → List ℕ → Type 0
-Leaves given left (Stopped NoMemory) written =
+-- what is left of the chosen file and of the input, and written to the output, by the outcome: what is due, or a
+-- beginning of it
+abbrev pub Leaves : Given → (of_file of_input : Option (List ℕ)) → Outcome → List ℕ → Type 0
+Leaves given of_file of_input (Stopped NoMemory) written =
     (lines : List (List ℕ)) × Begins given lines × (written ≡ bytes_of lines)
-Leaves given left (Stopped WriteFailed) written =
+Leaves given of_file of_input (Stopped WriteFailed) written =
     (lines : List (List ℕ)) × Begins given lines × IsFront written (bytes_of lines)
-Leaves given left (Stopped ReadFailed) written =
-    ((left ≡ Some given.input) × (written ≡ [])) ⊎ IsStoppedShort given left written
-Leaves given left outcome written =
-    (done : Done) × IsDue given done × (done.told ≡ told_of outcome) × IsLeft given.input done.rest left
+Leaves given of_file of_input (Stopped ReadFailed) written =
+    ((of_input ≡ Some given.input) × (written ≡ [])) ⊎ IsStoppedShort given of_file of_input written
+Leaves given of_file of_input outcome written =
+    (done : Done) × IsDue given done × (done.told ≡ told_of outcome) × IsLeft given.input done.rest of_input
     × (written ≡ bytes_of done.lines)
 
 -- the output grew by what was written

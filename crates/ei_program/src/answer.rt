@@ -1,6 +1,7 @@
 // The answering of the terms of an input.
 ghost use Rattle.std.specs.Prelude.{◌≡◌, ◌≢◌, ◌≤◌, ◌^◌, ℕ, List, Option, Some};
 ghost use Rattle.eq_ports.specs.Causes.{Rose};
+ghost use Rattle.symbol_table.specs.Table.{Keeps};
 ghost use Rattle.ei_program.specs.declared.stop.Stop.{Stop as WhyStopped};
 ghost use Rattle.ei_program.specs.Definitions.{definitions_of};
 ghost use Rattle.ei_program.specs.Loading.{IsReady};
@@ -61,7 +62,9 @@ fn answer_next<I: Source, O: Sink>(
 ) -> Step
     requires ready { IsReady ready.old }
     requires within { stream.old.place ≤ stream.old.limit }
-    ensures same { ((stop : WhyStopped) → result ≢ Step.Stopped stop) → ready.new ≡ ready.old }
+    ensures same { ready.new.regular ≡ ready.old.regular }
+    ensures keeps { Keeps ready.old.symbols ready.new.symbols }
+    ensures given_up { ((stop : WhyStopped) → result ≢ Step.Stopped stop) → ready.new.symbols ≡ ready.old.symbols }
     ensures left { StepLeft settings.now (definitions_of ready.old) stream.old stream.new
         (I.left input.old) (I.left input.new) (O.taken output.old) (O.taken output.new) result }
     ensures count { IsCounted (I.faults input.old) (I.faults input.new) stream.old stream.new }
@@ -116,6 +119,8 @@ pub fn answer_input<I: Source, O: Sink>(
     ensures left { (bytes : List ℕ) → I.left input.old ≡ Some bytes
         → LeavesOn (TextLeft settings.now (definitions_of ready.old) bytes (I.left input.new) result)
         (O.taken output.old) (O.taken output.new) }
+    ensures same { ready.new.regular ≡ ready.old.regular }
+    ensures keeps { Keeps ready.old.symbols ready.new.symbols }
     ensures through { I.through input.new ≡ I.through input.old }
     ensures input_later { I.faults input.old ≤ I.faults input.new }
     ensures read { result ≡ Outcome.Stopped Stop.ReadFailed → Rose (I.faults input.old) (I.faults input.new) }

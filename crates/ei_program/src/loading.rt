@@ -33,6 +33,7 @@ fn take_chosen<F: Files>(alloc: Global, files: &mut F) -> Result<Taken, NoMemory
 
 /// The bytes of a file, or the outcome of a run that cannot have them.
 fn take_file<F: Files>(alloc: Global, files: &mut F, name: &str) -> Result<Vec<u8>, Outcome>
+    ensures kept { F.named files.new ≡ F.named files.old }
     ensures told { IfErr result CanBeTold }
     ensures taken { (named : List ℕ → Option (List ℕ)) → F.named files.old ≡ Some named
         → IsFileTaken (named name.now) result }
@@ -80,6 +81,7 @@ pub fn load<F: Files>(
     files: &mut F,
     name: &str,
 ) -> Result<Ready, Outcome>
+    ensures kept { F.named files.new ≡ F.named files.old }
     ensures loaded { (named : List ℕ → Option (List ℕ)) → F.named files.old ≡ Some named
         → IsLoaded syntax (named name.now) result }
     ensures ready { IfOk result IsReady }

@@ -1,7 +1,8 @@
 // The run: the words, the definitions file, and then the mode.
-ghost use Rattle.std.specs.Prelude.{◌≡◌, ◌≢◌, ◌⊎◌, ◌≤◌, ◌↔◌, ℕ, List, Option, Some, map, string_bytes};
+ghost use Rattle.std.specs.Prelude.{◌≡◌, ◌≢◌, ◌⊎◌, ◌≤◌, ◌↔◌, ℕ, List, [], Option, Some, map, string_bytes};
 ghost use Rattle.eq_ports.specs.Causes.{Rose};
-ghost use Rattle.command_line.specs.Asked.{IsCommandLine};
+ghost use Rattle.command_line.specs.declared.task.Task.{Task as AskedTask};
+ghost use Rattle.command_line.specs.Asked.{Asks, IsCommandLine};
 ghost use Rattle.ei_program.specs.Definitions.{definitions_of};
 ghost use Rattle.ei_program.specs.Outcomes.{CanBeTold};
 ghost use Rattle.ei_program.specs.Checking.{IsChecked};
@@ -67,8 +68,11 @@ pub fn run<F: Files, I: Source, O: Sink>(
         → I.left input.old ≡ Some bytes
         → LeavesOn
         (Leaves (record { words = map string_bytes words.now; named = named; input = bytes })
-        (I.left input.new) result)
+        (F.rest files.new) (I.left input.new) result)
         (O.taken output.old) (O.taken output.new) }
+    ensures whole { (named : List ℕ → Option (List ℕ)) (task : AskedTask) (file terms : List ℕ)
+        → F.named files.old ≡ Some named → Asks (map string_bytes words.now) task file (Some terms)
+        → (result ≡ Outcome.Answered) ⊎ (result ≡ Outcome.Questions) → F.rest files.new ≡ Some [] }
     ensures words { (result ≡ Outcome.BadWords) ↔ (¬ IsCommandLine (map string_bytes words.now)) }
     ensures told { CanBeTold result }
     ensures files_later { F.faults files.old ≤ F.faults files.new }

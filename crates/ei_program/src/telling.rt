@@ -1,5 +1,5 @@
 // What is told of an outcome.
-ghost use Rattle.std.specs.Prelude.{◌≡◌, ◌≢◌, ◌≤◌};
+ghost use Rattle.std.specs.Prelude.{◌≡◌, ◌≢◌, ◌⊎◌, ◌≤◌};
 ghost use Rattle.eq_ports.specs.Causes.{Rose};
 ghost use Rattle.ei_program.specs.Outcomes.{told_of, CanBeTold};
 ghost use Rattle.ei_program.specs.Telling.{IsWritten, IsToldOn};
@@ -30,6 +30,8 @@ fn write_message<E: Sink>(message: &[u8], status: Status, errors: &mut E) -> Sta
 pub fn tell<E: Sink>(alloc: Global, outcome: &Outcome, errors: &mut E) -> Status
     requires { CanBeTold outcome.now }
     ensures told { IsToldOn (told_of outcome.now) (E.taken errors.old) (E.taken errors.new) result }
+    ensures answered { (result ≡ Status.Answered) ⊎ (result ≡ Status.Questions)
+        → (outcome.now ≡ Outcome.Answered) ⊎ (outcome.now ≡ Outcome.Questions) }
     ensures words { result ≡ Status.Words → outcome.now ≡ Outcome.BadWords }
     ensures read { result ≡ Status.ReadFailed → outcome.now ≡ Outcome.Stopped Stop.ReadFailed }
     ensures output { outcome.now ≡ Outcome.Stopped Stop.WriteFailed → result ≡ Status.WriteFailed }

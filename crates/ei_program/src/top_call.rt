@@ -1,8 +1,10 @@
 // The top calls: a run, or the answering of terms, and what is told of it.
-ghost use Rattle.std.specs.Prelude.{◌≡◌, ◌≢◌, ◌⊎◌, ◌≤◌, ◌^◌, ℕ, List, Option, None, Some, map, string_bytes};
+ghost use Rattle.std.specs.Prelude.{◌≡◌, ◌≢◌, ◌⊎◌, ◌≤◌, ◌^◌, ℕ, List, [], Option, None, Some, map, string_bytes};
 ghost use Rattle.eq_ports.specs.Causes.{Rose};
+ghost use Rattle.symbol_table.specs.Table.{Keeps};
 ghost use Rattle.term_lex.specs.declared.syntax.Syntax.{Syntax};
-ghost use Rattle.command_line.specs.Asked.{IsCommandLine};
+ghost use Rattle.command_line.specs.declared.task.Task.{Task};
+ghost use Rattle.command_line.specs.Asked.{Asks, IsCommandLine};
 ghost use Rattle.ei_program.specs.Definitions.{Definitions, Defines, BreaksNone, HasWrittenSteps, definitions_of};
 ghost use Rattle.ei_program.specs.Loading.{IsReady};
 ghost use Rattle.ei_program.specs.Answering.{AnswersText, TextLeft};
@@ -43,6 +45,10 @@ pub fn answer_terms<I: Source, O: Sink, E: Sink>(
         → DoesDue (AnswersText settings.now (definitions_of ready.old) None bytes) bytes (I.left input.new)
         (O.taken output.old) (O.taken output.new) (E.taken errors.old) (E.taken errors.new) result }
 
+    // The equations are as before, and what is declared and included is.
+    ensures same { ready.new.regular ≡ ready.old.regular }
+    ensures keeps { Keeps ready.old.symbols ready.new.symbols }
+
     // A failure is told only where a fault count rose.
     ensures read { result ≡ Status.ReadFailed → Rose (I.faults input.old) (I.faults input.new) }
     ensures write { result ≡ Status.WriteFailed → Rose (O.faults output.old) (O.faults output.new)
@@ -75,7 +81,8 @@ pub fn ei<F: Files, I: Source, O: Sink, E: Sink>(
     ensures leaves { (named : List ℕ → Option (List ℕ)) (bytes : List ℕ) → F.named files.old ≡ Some named
         → I.left input.old ≡ Some bytes
         → HasOutcome
-        (Leaves (record { words = map string_bytes words.items; named = named; input = bytes }) (I.left input.new))
+        (Leaves (record { words = map string_bytes words.items; named = named; input = bytes })
+        (F.rest files.new) (I.left input.new))
         (O.taken output.old) (O.taken output.new) (E.taken errors.old) (E.taken errors.new) result }
 
     // Where no fault count rose and memory was found, something is due by the words, the files and the input, which is
@@ -89,6 +96,11 @@ pub fn ei<F: Files, I: Source, O: Sink, E: Sink>(
         → DoesDue (IsDue (record { words = map string_bytes words.items; named = named; input = bytes })) bytes
         (I.left input.new) (O.taken output.old) (O.taken output.new) (E.taken errors.old) (E.taken errors.new)
         result }
+
+    // Where all terms of a named file are answered, nothing is left of it.
+    ensures whole { (named : List ℕ → Option (List ℕ)) (task : Task) (file terms : List ℕ)
+        → F.named files.old ≡ Some named → Asks (map string_bytes words.items) task file (Some terms)
+        → (result ≡ Status.Answered) ⊎ (result ≡ Status.Questions) → F.rest files.new ≡ Some [] }
 
     // By whatever file: the root steps by its equations are exactly the instances of its own items, as they
     // are written.
