@@ -1,8 +1,17 @@
 -- Lengths of fronts, and what follows from them, over plain numbers.
-use Rattle.std.proofs.Common.{◌≡◌, ℕ, ◌+◌, ◌-◌, ◌<◌, ◌≤◌, min, List, length, take, arith, inl, inr, sym, ◌∙◌, ap}
+use Rattle.std.proofs.Common.{◌≡◌, ℕ, zero, suc, ◌+◌, ◌-◌, ◌<◌, ◌≤◌, min, List, [], ◌∷◌, length, take, arith, inl, inr, refl, sym, ◌∙◌, ap}
+use Rattle.std.specs.Prelude.{false, nat_lt}
 use Rattle.std.proofs.lemmas.Bool.{cases_order}
 use Rattle.std.proofs.lemmas.List.{length-take}
+use borrow.Author.Tests.{ltb-false}
 use Rattle.ei_program.proofs.Sums.{take_all}
+
+-- a front as long as the list is the list
+pub front_whole : {A : Type 0} (n : ℕ) (xs : List A) → n ≡ length xs → take n xs ≡ xs
+front_whole zero [] e = refl
+front_whole zero (x ∷ xs) e = absurd (omega (arith, e))
+front_whole (suc n) [] e = absurd (omega (arith, e))
+front_whole (suc n) (x ∷ xs) e = let rest : n ≡ length xs = omega (arith, e) in ap (λ ys. x ∷ ys) (front_whole n xs rest)
 
 -- a front is no longer than the list, and no longer than was asked
 pub front_le : {A : Type 0} (n : ℕ) (xs : List A) → length (take n xs) ≤ length xs
@@ -44,3 +53,7 @@ behind_front place at len window held e p q = omega (arith, e, p, q)
 
 pub behind_le : (place at len : ℕ) → place ≡ at + len → at ≤ place
 behind_le place at len e = omega (arith, e)
+
+-- a number below another is not tested to be above
+pub not_below : (n m : ℕ) → n < m → nat_lt n m ≡ false → ⊥
+not_below n m lt is = omega (arith, lt, ltb-false n m is)

@@ -18,6 +18,7 @@ mod Phases
 mod OneLine
 mod OneDue
 mod Behind
+mod Newlines
 mod Taken
 mod Answered
 mod Skipping
