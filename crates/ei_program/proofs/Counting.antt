@@ -64,7 +64,7 @@ counted_same count old new limit state = record {
 
 -- ---- how much can be taken still
 
-abbrev open_count : SourceState → ℕ
+abbrev pub open_count : SourceState → ℕ
 open_count Open = 1
 open_count AtEnd = 0
 open_count Failed = 0

@@ -5,6 +5,8 @@ mod FileEquations
 mod Holding
 mod Answers
 mod Sums
+mod Lengths
+mod HeldWindows
 mod Broken
 mod Loadings
 mod WaysDown
@@ -16,6 +18,7 @@ mod Phases
 mod OneLine
 mod OneDue
 mod Behind
+mod Newlines
 mod Taken
 mod Answered
 mod Skipping

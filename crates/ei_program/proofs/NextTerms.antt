@@ -37,13 +37,13 @@ module _ (syntax : Syntax) (names : Table) (distinct : HasDistinctNames names) (
     where
       no_bytes : (bytes : List ℕ) → new.bytes ≡ bytes → length new.bytes ≡ 0
       no_bytes [] same = ap length same
-      no_bytes (b ∷ bytes) same = absurd (apart (sym e ∙ long (λ none. some (sym same ∙ none))))
+      no_bytes (b ∷ bytes) same = absurd (apart (sym e ∙ long (λ empty. some (sym same ∙ empty))))
         where
           some : (b ∷ bytes) ≡ [] → ⊥
-          some no = cc (no)
+          some none = cc (none)
 
           apart : ends.Whole ≡ ends.Long → ⊥
-          apart no = cc (no)
+          apart both = cc (both)
 
       may : new.state ≡ Open → MayTake new
       may is_open = (is_open, omega (arith, no_bytes new.bytes refl, place, limit, length-take old.limit taken))
@@ -59,10 +59,10 @@ module _ (syntax : Syntax) (names : Table) (distinct : HasDistinctNames names) (
     where
       by_bytes : (bytes : List ℕ) → new.bytes ≡ bytes → inputs.EndsBehind (ReadsOne syntax names) BytesEnded old.limit taken (end_of end)
       by_bytes [] same = inl (omega (arith, ap length same, place, count syntax names before left taken new is, length-take old.limit taken), ap end_of (whole same))
-      by_bytes (b ∷ bytes) same = inr (omega (arith, ap length same, place, count syntax names before left taken new is, length-take old.limit taken), ap end_of (long (λ none. some (sym same ∙ none))))
+      by_bytes (b ∷ bytes) same = inr (omega (arith, ap length same, place, count syntax names before left taken new is, length-take old.limit taken), ap end_of (long (λ empty. some (sym same ∙ empty))))
         where
           some : (b ∷ bytes) ≡ [] → ⊥
-          some no = cc (no)
+          some none = cc (none)
 
   pub end_comes : NothingLeft (take old.limit taken) old.place → new.place ≡ length (take old.limit taken) → ¬ MayTake new → (end : End) → (new.bytes ≡ [] → end ≡ ends.Whole) → (new.bytes ≢ [] → end ≡ ends.Long) → ComesNext syntax names table old new left (nexts.End end) taken
   end_comes nothing place no_more end whole long =

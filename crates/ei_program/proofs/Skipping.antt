@@ -1,6 +1,8 @@
 -- Blanks and comments of the bytes that are taken, a piece at a time.
 use Rattle.std.proofs.Common.{◌≡◌, ◌≢◌, ℕ, ◌+◌, ◌-◌, ◌<◌, ◌≤◌, Bool, true, false, List, [], ◌++◌, length, drop, take, arith, Option, Some, inl, inr, refl, sym, ◌∙◌, ap, subst, slice_get, length-drop, length-append, append-nil, append_assoc, drop-drop}
+use Rattle.std.specs.Prelude.{nat_lt}
 use Rattle.std.proofs.lemmas.List.{drop-append-le, length-take}
+use borrow.Author.Tests.{ltb-true, ltb-false}
 use Rattle.term_lex.specs.Gaps.{IsSkipped, IsGap}
 use Rattle.term_lex.proofs.Gaps.{Passed, gap_whole, none_passed}
 use Rattle.term_input.specs.Places.{IsNextByte, NothingLeft, StandsNext}
@@ -9,7 +11,9 @@ use Rattle.term_input.proofs.Gaps.{get_front}
 use Rattle.term_input.proofs.Inputs.{front_take}
 use Rattle.term_input.proofs.Streams.{more_taken, given_up}
 use Rattle.ei_program.specs.Reading.{readable, Goes, SkipsTo}
+use Rattle.ei_program.proofs.Lengths.{le_both}
 use Rattle.ei_program.proofs.Taken.{drop_take}
+use Rattle.ei_program.proofs.Counting.{open_count, to_take}
 
 -- the bytes that can be read behind a place
 abbrev pub text_behind : (limit place : ℕ) → List ℕ → List ℕ
@@ -105,44 +109,74 @@ module _ (a b : Option (List ℕ)) (old mid : Held) (inside : Bool) (limit : mid
       let behind = ap length (readable_behind before taken is) in
       omega (arith, behind, from, length-drop (mid.place - old.place) (text_behind old.limit old.place taken), length-drop old.place (take old.limit taken))
 
-  module _ (n place : ℕ) (place_is : place ≡ mid.place + n) (fits : n ≤ length (readable mid)) where
+  module _ (bytes : List ℕ) (bytes_are : bytes ≡ readable mid) (n place : ℕ) (place_is : place ≡ mid.place + n) (within_bytes : n ≤ length bytes) where
+    fits : n ≤ length (readable mid)
+    fits = subst (λ bs. n ≤ length bs) bytes_are within_bytes
+
+    behind_there : (before : Option (List ℕ)) (taken : List ℕ) → IsTaken before b taken mid → drop (mid.place - old.place) (text_behind old.limit old.place taken) ≡ bytes
+    behind_there before taken is = readable_behind before taken is ∙ sym bytes_are
+
     -- bytes of the gap are given up
     gives_up : (before : Option (List ℕ)) (taken : List ℕ) → IsTaken before b taken mid → IsTaken before b taken (given mid place)
     gives_up before taken is = given_up before b taken mid place is (omega (arith, place_is)) (omega (arith, place_is, fits, length-take (mid.limit - mid.place) mid.bytes))
 
-    pub given_within : place ≤ mid.place + length mid.bytes
+    given_within : place ≤ mid.place + length mid.bytes
     given_within = omega (arith, place_is, fits, length-take (mid.limit - mid.place) mid.bytes)
 
     further : mid.place - old.place + n ≡ place - old.place
     further = omega (arith, place_is, from)
 
     -- more of it is skipped
-    pub gap_goes_on : (now : Bool) → ((text : List ℕ) (len : ℕ) → drop len text ≡ readable mid → Passed text len inside → Passed text (len + n) now) → Goes a b old (given mid place) (GapTo now old (given mid place))
+    pub gap_goes_on : (now : Bool) → ((text : List ℕ) (len : ℕ) → drop len text ≡ bytes → Passed text len inside → Passed text (len + n) now) → Goes a b old (given mid place) (GapTo now old (given mid place))
     gap_goes_on now passed before taken is =
         let (more, there, (p, le)) = gone before taken is in
         let all = taken ++ more in
-        let behind = passed (text_behind old.limit old.place all) (mid.place - old.place) (readable_behind before all there) p in
+        let behind = passed (text_behind old.limit old.place all) (mid.place - old.place) (behind_there before all there) p in
         (more, gives_up before all there, (subst (λ k. Passed (text_behind old.limit old.place all) k now) further behind, omega (arith, place_is, fits, le, readable_length before all there)))
 
     -- something stands behind it
-    pub gap_stands : n < length (readable mid) → ((text : List ℕ) (len : ℕ) → drop len text ≡ readable mid → Passed text len inside → IsGap text (len + n)) → Goes a b old (given mid place) (SkipsTo true old (given mid place))
+    gap_stands : n < length (readable mid) → ((text : List ℕ) (len : ℕ) → drop len text ≡ bytes → Passed text len inside → IsGap text (len + n)) → Goes a b old (given mid place) (SkipsTo true old (given mid place))
     gap_stands lt ends before taken is =
         let (more, there, (p, le)) = gone before taken is in
         let all = taken ++ more in
-        let gap = ends (text_behind old.limit old.place all) (mid.place - old.place) (readable_behind before all there) p in
+        let gap = ends (text_behind old.limit old.place all) (mid.place - old.place) (behind_there before all there) p in
         let within : old.place ≤ length (take old.limit all) = omega (arith, from, le) in
         let short : mid.place - old.place + n < length (text_behind old.limit old.place all) = omega (arith, lt, from, le, readable_length before all there, length-drop old.place (take old.limit all)) in
         (more, gives_up before all there, stands_behind old.limit old.place all within (mid.place - old.place + n) place gap short (omega (arith, place_is, from)))
 
     -- nothing is left, and no more can be taken
-    pub gap_ends : (now : Bool) → n ≡ length (readable mid) → ((text : List ℕ) (len : ℕ) → drop len text ≡ readable mid → Passed text len inside → Passed text (len + n) now) → ¬ MayTake (given mid place) → Goes a b old (given mid place) (SkipsTo false old (given mid place))
+    gap_ends : (now : Bool) → n ≡ length (readable mid) → ((text : List ℕ) (len : ℕ) → drop len text ≡ bytes → Passed text len inside → Passed text (len + n) now) → ¬ MayTake (given mid place) → Goes a b old (given mid place) (SkipsTo false old (given mid place))
     gap_ends now all_passed passed no_more before taken is =
         let (more, there, (p, le)) = gone before taken is in
         let all = taken ++ more in
-        let behind = passed (text_behind old.limit old.place all) (mid.place - old.place) (readable_behind before all there) p in
+        let behind = passed (text_behind old.limit old.place all) (mid.place - old.place) (behind_there before all there) p in
         let within : old.place ≤ length (take old.limit all) = omega (arith, from, le) in
         let whole : mid.place - old.place + n ≡ length (text_behind old.limit old.place all) = omega (arith, all_passed, from, le, readable_length before all there, length-drop old.place (take old.limit all)) in
         (more, gives_up before all there, (nothing_behind old.limit old.place all within (mid.place - old.place + n) now behind whole, omega (arith, place_is, all_passed, le, readable_length before all there), no_more))
+
+    -- by whether something stands behind it
+    pub gap_left : (stands now : Bool) → stands ≡ nat_lt n (length bytes) → ((text : List ℕ) (len : ℕ) → drop len text ≡ bytes → Passed text len inside → Passed text (len + n) now)
+        → (n < length bytes → (text : List ℕ) (len : ℕ) → drop len text ≡ bytes → Passed text len inside → IsGap text (len + n)) → (stands ≡ false → ¬ MayTake (given mid place)) → Goes a b old (given mid place) (SkipsTo stands old (given mid place))
+    gap_left true now is passed ends no_more =
+        let lt = ltb-true n (length bytes) (sym is) in
+        gap_stands (subst (λ bs. n < length bs) bytes_are lt) (ends lt)
+    gap_left false now is passed ends no_more =
+        let all : n ≡ length bytes = le_both n (length bytes) within_bytes (ltb-false n (length bytes) (sym is)) in
+        gap_ends now (all ∙ ap length bytes_are) passed (no_more refl)
+
+-- giving up bytes takes none
+pub given_count : (held : Held) (place : ℕ) → held.place ≤ place → place ≤ taken_count held → taken_count (given held place) ≡ taken_count held
+given_count held place from to = omega (arith, from, to, length-drop (place - held.place) held.bytes)
+
+-- so many of the bytes that may be read are given up
+pub given_in : (held : Held) (bytes : List ℕ) → bytes ≡ readable held → (n place : ℕ) → place ≡ held.place + n → n ≤ length bytes → held.place ≤ held.limit → (held.place ≤ place) × (place ≤ taken_count held) × (place ≤ held.limit)
+given_in held bytes is n place place_is within fits =
+    let long : length bytes ≡ length (take (held.limit - held.place) held.bytes) = ap length is in
+    let front = length-take (held.limit - held.place) held.bytes in
+    (omega (arith, place_is), omega (arith, place_is, within, long, front), omega (arith, place_is, within, fits, long, front))
+
+pub given_to_take : (held : Held) (place : ℕ) → held.place ≤ place → place ≤ taken_count held → to_take (given held place) ≡ to_take held
+given_to_take held place from to = ap (λ n. (held.limit + 1 - n) + open_count held.state) (given_count held place from to)
 
 -- more is taken behind it
 pub gap_more : (a b c : Option (List ℕ)) (old mid new : Held) (inside : Bool) → old.place ≤ mid.place → Goes a b old mid (GapTo inside old mid) → Takes b c mid new → Goes a c old new (GapTo inside old new)

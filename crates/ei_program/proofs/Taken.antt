@@ -20,6 +20,7 @@ use Rattle.term_input.proofs.TermReaders.{term_reader}
 use Rattle.term_input.proofs.Windows.{next_past_limit, next_of_window}
 use Rattle.ei_program.specs.declared.reading.End.{End}
 use Rattle.ei_program.specs.Reading.{end_of, readable, window_of, MayChange, EndsSo, Goes, IsCounted, TermNext, window}
+use Rattle.ei_program.proofs.Lengths.{further, further_held}
 
 none_taken : {A : Type 0} (k : ℕ) → [] ≡ take {A = A} k []
 none_taken zero = refl
@@ -27,10 +28,10 @@ none_taken (suc k) = refl
 
 -- the front of a text, and what is behind a place of it
 pub drop_take : {A : Type 0} (n m : ℕ) (xs : List A) → drop n (take m xs) ≡ take (m - n) (drop n xs)
-drop_take zero m xs = ap (λ k. take k xs) (omega arith)
-drop_take (suc n) zero xs = ap (λ k. take k (drop (suc n) xs)) (omega arith)
+drop_take zero m xs = let same : m ≡ m - 0 = omega arith in ap (λ k. take k xs) same
+drop_take (suc n) zero xs = let same : 0 ≡ 0 - suc n = omega arith in ap (λ k. take k (drop (suc n) xs)) same
 drop_take (suc n) (suc m) [] = none_taken (suc m - suc n)
-drop_take (suc n) (suc m) (x ∷ xs) = drop_take n m xs ∙ ap (λ k. take k (drop n xs)) (omega arith)
+drop_take (suc n) (suc m) (x ∷ xs) = let same : m - n ≡ suc m - suc n = omega arith in drop_take n m xs ∙ ap (λ k. take k (drop n xs)) same
 
 module _ (syntax : Syntax) (names : Table) (before left : Option (List ℕ)) (taken : List ℕ) (held : Held) (is : IsTaken before left taken held) where
   -- how many bytes were taken
@@ -49,10 +50,10 @@ module _ (syntax : Syntax) (names : Table) (before left : Option (List ℕ)) (ta
 
   -- the bytes go on behind the window that is held where what was taken does
   goes_on : length (window_of held) < length held.bytes → held.place + length (window syntax names held.limit taken held.place) < length taken
-  goes_on lt = omega (arith, lt, count, ap length window_taken)
+  goes_on lt = further (length (window syntax names held.limit taken held.place)) (length held.bytes) held.place (length taken) (sym count) (subst (λ n. n < length held.bytes) (ap length window_taken) lt)
 
   goes_on_held : held.place + length (window syntax names held.limit taken held.place) < length taken → length (window_of held) < length held.bytes
-  goes_on_held lt = omega (arith, lt, count, ap length window_taken)
+  goes_on_held lt = subst (λ n. n < length held.bytes) (sym (ap length window_taken)) (further_held (length (window syntax names held.limit taken held.place)) (length held.bytes) held.place (length taken) (sym count) lt)
 
   -- the end at the first byte that is held is the end there in what was taken
   pub ends_taken : (fault : Fault) (end : End) → EndsSo held fault end → inputs.EndsAt (ReadsOne syntax names) BytesEnded held.limit taken held.place fault (end_of end)

@@ -6,7 +6,8 @@ use Rattle.eq_base.specs.Tree.{Tree}
 use Rattle.eq_base.specs.ReadHead.{ReadHead}
 use Rattle.term_lex.specs.declared.fault.Fault.{Fault}
 use Rattle.term_lex.specs.declared.syntax.Syntax.{Syntax}
-use Rattle.symbol_table.specs.Table.{Table, HasDistinctNames}
+use Rattle.symbol_table.specs.Table.{Table, HasDistinctNames, Keeps, names_of}
+use Rattle.symbol_table.proofs.Keeping.{names_kept}
 use Rattle.symbol_table.specs.Reading.{read}
 use Rattle.def_file.specs.Notations.{notation_of}
 use Rattle.term_input.specs.declared.source_state.SourceState.{SourceState}
@@ -22,7 +23,10 @@ use Rattle.ei_program.specs.declared.reading.End.TheVariants as ends
 use Rattle.ei_program.specs.declared.reading.Next.{Next}
 use Rattle.ei_program.specs.declared.reading.Next.TheVariants as nexts
 use Rattle.ei_program.specs.Reading.{end_of, readable, window_of, MayChange, EndsSo, Goes, IsFarther, SkipsTo, window, IsThing, ComesNext}
-use Rattle.ei_program.proofs.Taken.{window_taken, ends_taken, goes_weaker}
+use Rattle.ei_program.proofs.Taken.{window_taken, ends_taken, goes_then, goes_weaker}
+use Rattle.ei_program.proofs.Lengths.{le_zero, le_then, behind_front, behind_le}
+use Rattle.ei_program.proofs.HeldWindows.{window_held, window_most}
+use Rattle.ei_program.proofs.Counting.{goes_take}
 use Rattle.ei_program.proofs.Skipping.{given}
 use Rattle.ei_program.proofs.NextTerms.{stands_more, end_comes, thing_comes}
 
@@ -38,6 +42,18 @@ farther b c old mid new place more may t = record { place = t.place ∙ place; m
     by_state AtEnd is = inr (λ is_open. let no : Open ≡ AtEnd = sym is_open ∙ is in cc (no))
     by_state Failed is = inr (λ is_open. let no : Open ≡ Failed = sym is_open ∙ is in cc (no))
 
+-- bytes were taken, and more
+pub gone_on : (a b c : Option (List ℕ)) (old mid new : Held) → Goes a b old mid (λ taken. Unit {0}) → Takes b c mid new → Goes a c old new (λ taken. Unit {0})
+gone_on a b c old mid new gone t = goes_then a b c old mid new (λ taken. Unit {0}) (λ taken. Unit {0}) gone (goes_take b c mid new t)
+
+-- a term is read in the window of what is held, by names that have not changed
+pub reads_there : (syntax : Syntax) (old now : Table) → Keeps old now → (window : List ℕ) (held : Held) → window ≡ window_of held → (r : Result (Tree ReadHead × ℕ) Fault) → ReadsOne syntax (names_of now) window r → ReadsOne syntax (names_of old) (window_of held) r
+reads_there syntax old now k window held is r reads = subst (λ n. ReadsOne syntax n (window_of held) r) (names_kept old now k) (subst (λ w. ReadsOne syntax (names_of now) w r) is reads)
+
+-- and has a length that can be counted
+pub len_fits : (syntax : Syntax) (names : Table) (held : Held) (t : Tree ReadHead) (len : ℕ) → ReadsOne syntax names (window_of held) (Ok (t, len)) → len ≤ inputs.window_bytes
+len_fits syntax names held t len reads = le_then len (length (window_of held)) inputs.window_bytes (term_within (notation_of syntax) names (window_of held) 0 t len (le_zero (length (window_of held))) reads).1 (window_most held)
+
 module _ (syntax : Syntax) (names : Table) (table : Table) (a b : Option (List ℕ)) (old mid : Held) (place_is : mid.place ≡ old.place) (limit : mid.limit ≡ old.limit) (gone : Goes a b old mid (λ taken. Unit {0})) where
   -- the window of what is held is that of the first place in all that was taken
   window_there : (before : Option (List ℕ)) (taken : List ℕ) → IsTaken before b taken mid → window_of mid ≡ window syntax names old.limit taken old.place
@@ -46,24 +62,21 @@ module _ (syntax : Syntax) (names : Table) (table : Table) (a b : Option (List �
       ∙ ap (λ n. window syntax names n taken mid.place) limit
       ∙ ap (window syntax names old.limit taken) place_is
 
-  window_held : length (window_of mid) ≤ length mid.bytes
-  window_held = omega (arith, length-take inputs.window_bytes (readable mid), length-take (mid.limit - mid.place) mid.bytes)
-
   -- ---- a term
 
   module _ (t : Tree Head) (len place : ℕ) (reads : ReadsOne syntax names (window_of mid) (Ok (read table t, len))) (behind : place ≡ mid.place + len) where
     len_within : len ≤ length (window_of mid)
-    len_within = (term_within (notation_of syntax) names (window_of mid) 0 (read table t) len (omega arith) reads).1
+    len_within = (term_within (notation_of syntax) names (window_of mid) 0 (read table t) len (le_zero (length (window_of mid))) reads).1
 
     -- its bytes were taken
     pub term_taken : place ≤ mid.place + length mid.bytes
-    term_taken = omega (arith, behind, len_within, window_held)
+    term_taken = behind_front place mid.place len (length (window_of mid)) (length mid.bytes) behind len_within (window_held mid)
 
     pub term_read : Goes a b old (given mid place) (IsThing syntax names table old (given mid place) (nexts.Term t))
     term_read before taken is =
         let (more, there, none) = gone before taken is in
         let moved = subst (λ w. ReadsOne syntax names w (Ok (read table t, len))) (window_there before (taken ++ more) there) reads in
-        (more, given_up before b (taken ++ more) mid place there (omega (arith, behind)) term_taken, (len, moved, omega (arith, behind, place_is)))
+        (more, given_up before b (taken ++ more) mid place there (behind_le place mid.place len behind) term_taken, (len, moved, behind ∙ ap (λ n. n + len) place_is))
 
   -- ---- the end
 

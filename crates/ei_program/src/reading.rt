@@ -79,14 +79,12 @@ fn may_change(stream: &Stream) -> bool
 
 /// Whether the bytes ended before the term did that has this fault.
 fn bytes_ended(window: &[u8], fault: Fault) -> bool
+    requires { fault.byte ≤ length window.now }
     ensures { (result ≡ true) ↔ BytesEnded window.now fault }
 {
     match fault.kind {
         FaultKind::Unended => true,
-        FaultKind::OpenString => match window.get(fault.byte..) {
-            Some(behind) => !behind.contains(&b'\n'),
-            None => true,
-        },
+        FaultKind::OpenString => !window[fault.byte..].contains(&b'\n'),
         _ => false,
     }
 }
@@ -129,7 +127,8 @@ fn end_at(stream: &Stream, fault: Fault) -> End
 fn take_on<I: Source>(stream: &mut Stream, input: &mut I, dots: &mut Dots) -> Result<(), NoMemory>
     requires { MayTake stream.old }
     ensures goes { OnOk result (Goes (I.left input.old) (I.left input.new) stream.old stream.new
-        (λ taken. IsFarther stream.old stream.new)) }
+        (λ taken. Unit {0})) }
+    ensures farther { OnOk result (IsFarther stream.old stream.new) }
     ensures count { IsCounted (I.faults input.old) (I.faults input.new) stream.old stream.new }
     ensures through { I.through input.new ≡ I.through input.old }
 {
