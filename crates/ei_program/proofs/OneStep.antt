@@ -74,12 +74,12 @@ module _ (settings : Settings) (d : Definitions) (distinct : HasDistinctNames d.
 
   pub step_answers : Left Answer → Answered settings d before left new out_old out_new any
   step_answers goes =
-      let (more, is, (line, a, (no, written))) = goes before so_far.taken so_far.is_taken in
+      let (more, is, (line, a, (plain, written))) = goes before so_far.taken so_far.is_taken in
       answered_by_form settings d distinct before mid left old new out_old out_mid out_new any so_far more is limit a.term line a.next a.is plain written
 
   pub step_asks : Left Question → Answered settings d before left new out_old out_new true
   step_asks goes =
-      let (more, is, (line, a, (yes, written))) = goes before so_far.taken so_far.is_taken in
+      let (more, is, (line, a, (question, written))) = goes before so_far.taken so_far.is_taken in
       answered_by_question settings d distinct before mid left old new out_old out_mid out_new any so_far more is limit a.term line a.next a.is question written
 
   -- ---- each term has bytes of its own
