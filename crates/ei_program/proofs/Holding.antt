@@ -74,3 +74,7 @@ pub cut_again : (old new cut : Table) (mark : Mark) → Keeps old new → mark �
     → cut ≡ record new { atoms = take mark.atoms new.atoms; texts = take mark.texts new.texts } → cut ≡ old
 cut_again old new cut mark k marked is =
     is ∙ ap (λ (m : Mark). record new { atoms = take m.atoms new.atoms; texts = take m.texts new.texts }) marked ∙ table_again old new k
+
+-- what is held with the same equations and the same table is the same
+pub same_held : (one other : Ready) → one.regular ≡ other.regular → one.symbols ≡ other.symbols → one ≡ other
+same_held one other regular symbols = λ i. record { regular = regular i; symbols = symbols i }
