@@ -14,7 +14,7 @@ admit-requires c =
 
 pub returns-in-Ok-clause-admitted : goal.returns-in-Ok-clause-admitted
 returns-in-Ok-clause-admitted c =
-    admitted c.args.equations c.in-Ok.regular c.requires.defined.0 c.requires.defined.1.0 c.requires.defined.1.1 c.requires.usable c.has_one_number_each.ensures.distinct c.in-Ok.ensures.ok c.in-Ok.ensures.regular
+    admitted c.args.equations c.in-Ok.regular c.requires.defined.0 c.requires.defined.1 c.requires.defined.2 c.requires.usable c.has_one_number_each.ensures.distinct c.in-Ok.ensures.ok c.in-Ok.ensures.regular
 
 pub returns-in-Err-Broken-clause-admitted : goal.returns-in-Err-Broken-clause-admitted
 returns-in-Err-Broken-clause-admitted c =
