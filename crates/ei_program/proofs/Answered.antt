@@ -55,15 +55,15 @@ some_more (l ∷ lines) line (inl is) = inl is
 some_more (l ∷ lines) line (inr some) = inr (some_more lines line some)
 
 none_more : (lines : List (List ℕ)) (line : List ℕ) → ¬ SomeQuestion lines → ¬ IsQuestion line → SomeQuestion (lines ++ line ∷ []) → ⊥
-none_more [] line none no (inl is) = no is
-none_more [] line none no (inr some) = some
-none_more (l ∷ lines) line none no (inl is) = none (inl is)
-none_more (l ∷ lines) line none no (inr some) = none_more lines line (λ s. none (inr s)) no some
+none_more [] line none plain (inl is) = plain is
+none_more [] line none plain (inr some) = some
+none_more (l ∷ lines) line none plain (inl is) = none (inl is)
+none_more (l ∷ lines) line none plain (inr some) = none_more lines line (λ s. none (inr s)) plain some
 
 -- no line begins with `?`, and this one does not
 tells_more : (any : Bool) (lines : List (List ℕ)) (line : List ℕ) → Tells any lines → ¬ IsQuestion line → Tells any (lines ++ line ∷ [])
-tells_more true lines line some no = some_more lines line some
-tells_more false lines line none no = none_more lines line none no
+tells_more true lines line some plain = some_more lines line some
+tells_more false lines line none plain = none_more lines line none plain
 
 -- ---- the beginning
 
@@ -118,7 +118,7 @@ module _ (settings : Settings) (d : Definitions) (distinct : HasDistinctNames d.
     answered_by_question is_question written = answered_more true (question_more so_far.lines line is_question) written
 
     pub answered_by_form : (¬ IsQuestion line) → Appends out_mid out_new (ended line) → Answered settings d before left new out_old out_new any
-    answered_by_form no written = answered_more any (tells_more any so_far.lines line so_far.tells no) written
+    answered_by_form plain written = answered_more any (tells_more any so_far.lines line so_far.tells plain) written
 
   -- the end comes behind the first terms
   pub read_to_end : (bytes : List ℕ) (end : inputs.End) → AreFirst settings.syntax d.names settings.input_bytes bytes so_far.terms old.place → TermNext settings.syntax d.names settings.input_bytes bytes old.place (Err end) → IsReadAs settings.syntax d.names settings.input_bytes bytes so_far.terms end

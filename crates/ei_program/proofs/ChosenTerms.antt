@@ -1,6 +1,7 @@
 -- The terms of a file that was chosen, or could not be.
-use Rattle.std.specs.Prelude.{IfSome}
-use Rattle.std.proofs.Common.{◌≡◌, ℕ, List, [], Option, Some, None, inl, inr, refl, subst}
+use Rattle.std.specs.Prelude.{IfSome, OnOk}
+use Rattle.std.specs.Result.{is_err}
+use Rattle.std.proofs.Common.{◌≡◌, ℕ, List, [], Bool, true, false, Option, Some, None, Result, Ok, Err, inl, inr, refl, subst}
 use Rattle.eq_ports.specs.Moves.{BeginsAt, Named}
 use Rattle.ei_program.specs.declared.settings.Settings.{Settings}
 use Rattle.ei_program.specs.declared.stop.Stop.TheVariants.{ReadFailed}
@@ -23,3 +24,8 @@ chosen settings d None rest left out_old out_new outcome begins leaves = absurd 
 -- by the bytes that are known under each name
 pub chosen_begins : (known : Named) (named : List ℕ → Option (List ℕ)) (name : List ℕ) (rest : Option (List ℕ)) → known ≡ Some named → IfSome known (λ look_up. BeginsAt (look_up name) rest) → BeginsAt (named name) rest
 chosen_begins known named name rest is begins = let Begins : Named → Type 0 = λ k. IfSome k (λ look_up. BeginsAt (look_up name) rest) in subst Begins is begins
+
+-- what holds of a call that did not fail
+pub went_well : {T E P : Type 0} (r : Result T E) → is_err r ≡ false → OnOk r P → P
+went_well (Ok x) is holds = holds
+went_well (Err e) is holds = let other : true ≡ false = is in cc (other)

@@ -65,7 +65,7 @@ module _ (settings : Settings) (d : Definitions) (distinct : HasDistinctNames d.
 
   pub no_memory_left : (left out_new : Option (List ℕ)) → Appends out_mid out_new [] → LeavesOn (TextLeft settings d input left (Stopped NoMemory)) out_old out_new
   no_memory_left left out_new nothing =
-      let first = record { terms = so_far.terms; last = old.place; read = first_in so_far.terms so_far.taken old.place mid so_far.is_taken.consumed so_far.read; fit = so_far.fit } in
+      let first : AnswersFirst settings d input so_far.lines = record { terms = so_far.terms; last = old.place; read = first_in so_far.terms so_far.taken old.place mid so_far.is_taken.consumed so_far.read; fit = so_far.fit } in
       let written = subst (Appends out_old out_new) (append-nil (bytes_of so_far.lines)) (appends_both out_old out_mid out_new (bytes_of so_far.lines) [] so_far.written nothing) in
       (bytes_of so_far.lines, (so_far.lines, first, refl), written)
 
@@ -79,7 +79,7 @@ module _ (settings : Settings) (d : Definitions) (distinct : HasDistinctNames d.
     broken_off line a (front, back, parts, appends) =
         let read = first_more settings d distinct before mid left old new out_old out_mid out_new any so_far more is limit a.term line a.next a.is in
         let fit = lines_fit settings d distinct before mid left old new out_old out_mid out_new any so_far more is limit a.term line a.next a.is in
-        let first = record { terms = so_far.terms ++ a.term ∷ []; last = new.place; read = first_in (so_far.terms ++ a.term ∷ []) taken new.place left is.consumed read; fit = fit } in
+        let first : AnswersFirst settings d input (so_far.lines ++ line ∷ []) = record { terms = so_far.terms ++ a.term ∷ []; last = new.place; read = first_in (so_far.terms ++ a.term ∷ []) taken new.place left is.consumed read; fit = fit } in
         let all : bytes_of (so_far.lines ++ line ∷ []) ≡ (bytes_of so_far.lines ++ front) ++ back = bytes_more so_far.lines line ∙ ap (λ bs. bytes_of so_far.lines ++ bs) (sym parts) ∙ sym (append_assoc (bytes_of so_far.lines) front back) in
         (bytes_of so_far.lines ++ front, (so_far.lines ++ line ∷ [], first, (back, all)), appends_both out_old out_mid out_new (bytes_of so_far.lines) front so_far.written appends)
 

@@ -5,6 +5,7 @@ use Rattle.eq_base.specs.Operations.{value_of}
 use Rattle.eq_base.specs.declared.rules.Equation.{Equation}
 use Rattle.eq_base.proofs.Positions.{map-map}
 use Rattle.symbol_table.specs.Table.{Table, Keeps, HasDistinctNames}
+use Rattle.symbol_table.specs.declared.symbols.Mark.{Mark}
 use Rattle.symbol_table.specs.Reading.{read_rule, read_classes, read_system, AreLiveEquations}
 use Rattle.symbol_table.proofs.Keeping.{names_kept, includes_as}
 use Rattle.symbol_table.proofs.Rereading.{rule_kept, classes_kept, live_rules_kept}
@@ -67,3 +68,13 @@ table_again old new k =
     front_again : {A : Type 0} (xs ys : List A) → take (length xs) (xs ++ ys) ≡ xs
     front_again [] ys = refl
     front_again (x ∷ xs) ys = ap (λ zs. x ∷ zs) (front_again xs ys)
+
+-- what joined behind a mark is given up
+pub cut_again : (old new cut : Table) (mark : Mark) → Keeps old new → mark ≡ record { atoms = length old.atoms; texts = length old.texts }
+    → cut ≡ record new { atoms = take mark.atoms new.atoms; texts = take mark.texts new.texts } → cut ≡ old
+cut_again old new cut mark k marked is =
+    is ∙ ap (λ (m : Mark). record new { atoms = take m.atoms new.atoms; texts = take m.texts new.texts }) marked ∙ table_again old new k
+
+-- what is held with the same equations and the same table is the same
+pub same_held : (one other : Ready) → one.regular ≡ other.regular → one.symbols ≡ other.symbols → one ≡ other
+same_held one other regular symbols = λ i. record { regular = regular i; symbols = symbols i }

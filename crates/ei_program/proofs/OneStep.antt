@@ -2,8 +2,10 @@
 use Rattle.std.proofs.Common.{◌≡◌, ◌≢◌, ◌⊎◌, ℕ, ◌+◌, ◌-◌, ◌<◌, ◌≤◌, Bool, true, false, List, [], ◌∷◌, ◌++◌, length, take, arith, Option, Some, Ok, Err, inl, inr, refl, sym, ◌∙◌, ap, subst, slice_get}
 use Rattle.std.specs.Io.KnownBytes.{Appends}
 use Rattle.std.proofs.lemmas.List.{length-take}
+use Rattle.std.proofs.lemmas.Option.{none-some}
 use Rattle.eq_base.specs.Tree.{Tree}
 use Rattle.eq_base.specs.ReadHead.{ReadHead}
+use Rattle.eq_base.proofs.Heads.{some_same}
 use Rattle.eq_ports.specs.Moves.{AppendsFront}
 use Rattle.eq_ports.proofs.Known.{appends_none}
 use Rattle.symbol_table.specs.Table.{HasDistinctNames}
@@ -32,26 +34,23 @@ use Rattle.ei_program.proofs.Ended.{no_memory_left, broken_off, ended_so}
 -- ---- the line
 
 question_ended : (line : List ℕ) → IsQuestion line → IsQuestion (ended line)
-question_ended [] q = cc (q)
+question_ended [] q = absurd (none-some 63 q)
 question_ended (b ∷ line) q = q
 
 question_of : (line : List ℕ) → IsQuestion (ended line) → IsQuestion line
-question_of [] q = let no : Some 10 ≡ Some 63 = q in absurd (apart no)
-  where
-    apart : ◌≡◌ {A = Option ℕ} (Some 10) (Some 63) → ⊥
-    apart e = let same : 10 ≡ 63 = cc (e) in omega (arith, same)
+question_of [] q = absurd (omega (arith, some_same 10 63 q))
 question_of (b ∷ line) q = q
 
 -- a term was read, and a text with its line was written, or a front of it
 pub written_step : (settings : Settings) (d : Definitions) (old new : Held) (mid left out_old out_new : Option (List ℕ)) (t : Tree ReadHead) (text : List ℕ) → IsLineText settings d t text
     → Goes mid left old new (λ taken. TermNext settings.syntax d.names old.limit taken old.place (Ok (t, new.place)))
     → (step : Step) → WritesText text out_old out_new step → StepLeft settings d old new mid left out_old out_new step
-written_step settings d old new mid left out_old out_new t text (line, is, e) goes Answer (no, appends) = λ before taken there.
+written_step settings d old new mid left out_old out_new t text (line, is, e) goes Answer (plain, appends) = λ before taken there.
     let (more, behind, next) = goes before taken there in
-    (more, behind, (line, record { term = t; next = next; is = is }, ((λ q. no (subst IsQuestion (sym e) (question_ended line q))), subst (Appends out_old out_new) e appends)))
-written_step settings d old new mid left out_old out_new t text (line, is, e) goes Question (yes, appends) = λ before taken there.
+    (more, behind, (line, record { term = t; next = next; is = is }, ((λ q. plain (subst IsQuestion (sym e) (question_ended line q))), subst (Appends out_old out_new) e appends)))
+written_step settings d old new mid left out_old out_new t text (line, is, e) goes Question (question, appends) = λ before taken there.
     let (more, behind, next) = goes before taken there in
-    (more, behind, (line, record { term = t; next = next; is = is }, (question_of line (subst IsQuestion e yes), subst (Appends out_old out_new) e appends)))
+    (more, behind, (line, record { term = t; next = next; is = is }, (question_of line (subst IsQuestion e question), subst (Appends out_old out_new) e appends)))
 written_step settings d old new mid left out_old out_new t text (line, is, e) goes (StoppedBy WriteFailed) front = λ before taken there.
     let (more, behind, next) = goes before taken there in
     (more, behind, (line, record { term = t; next = next; is = is }, subst (AppendsFront out_old out_new) e front))
@@ -75,13 +74,13 @@ module _ (settings : Settings) (d : Definitions) (distinct : HasDistinctNames d.
 
   pub step_answers : Left Answer → Answered settings d before left new out_old out_new any
   step_answers goes =
-      let (more, is, (line, a, (no, written))) = goes before so_far.taken so_far.is_taken in
-      answered_by_form settings d distinct before mid left old new out_old out_mid out_new any so_far more is limit a.term line a.next a.is no written
+      let (more, is, (line, a, (plain, written))) = goes before so_far.taken so_far.is_taken in
+      answered_by_form settings d distinct before mid left old new out_old out_mid out_new any so_far more is limit a.term line a.next a.is plain written
 
   pub step_asks : Left Question → Answered settings d before left new out_old out_new true
   step_asks goes =
-      let (more, is, (line, a, (yes, written))) = goes before so_far.taken so_far.is_taken in
-      answered_by_question settings d distinct before mid left old new out_old out_mid out_new any so_far more is limit a.term line a.next a.is yes written
+      let (more, is, (line, a, (question, written))) = goes before so_far.taken so_far.is_taken in
+      answered_by_question settings d distinct before mid left old new out_old out_mid out_new any so_far more is limit a.term line a.next a.is question written
 
   -- ---- each term has bytes of its own
 
@@ -105,7 +104,7 @@ module _ (settings : Settings) (d : Definitions) (distinct : HasDistinctNames d.
 
     pub step_stops : (stop : Stop) → Left (StoppedBy stop) → LeavesOn (TextLeft settings d input left (Stopped stop)) out_old out_new
     step_stops NoMemory silent = no_memory_left settings d distinct before mid old out_old out_mid any so_far input known left out_new silent
-    step_stops ReadFailed no = absurd no
+    step_stops ReadFailed goes = absurd goes
     step_stops WriteFailed goes =
         let (more, is, (line, a, front)) = goes before so_far.taken so_far.is_taken in
         broken_off settings d distinct before mid old out_old out_mid any so_far input known left out_new new limit more is line a front

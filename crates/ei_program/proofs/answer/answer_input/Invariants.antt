@@ -8,7 +8,8 @@ use Rattle.ei_program.proofs.answer.answer_input.Given as goal
 -- the first terms are answered, and the equations and their table are as they were
 abbrev pub invariant-terms : goal.invariant-terms
 invariant-terms g l = record {
-  same : l.ready ≡ l.initial.ready;
+  same : l.ready.regular ≡ l.initial.ready.regular;
+  symbols : l.ready.symbols ≡ l.initial.ready.symbols;
   count : IsCounted (g.I.Source.faults l.initial.input) (g.I.Source.faults l.input) (nothing_held l.settings.input_bytes) l.stream;
   through : g.I.Source.through l.input ≡ g.I.Source.through l.initial.input;
   output : g.O.Sink.faults l.output ≡ g.O.Sink.faults l.initial.output;
