@@ -1,7 +1,7 @@
 -- The answers of plain runs: the only normal form, or that the budget is spent.
-use Rattle.std.proofs.Common.{◌≡◌, ◌≤◌, ℕ, List, ◌++◌, Result, Ok, Err, refl, sym, ap, subst}
+use Rattle.std.proofs.Common.{◌≡◌, ◌<◌, ◌≤◌, ℕ, List, [], ◌++◌, Result, Ok, Err, inl, inr, refl, sym, ap, subst}
 use Rattle.std.specs.Prelude.{IfOk, codes, decimal}
-use Rattle.eq_base.specs.Tree.{Tree, node, nth_subtree}
+use Rattle.eq_base.specs.Tree.{Tree, node, size, nth_subtree}
 use Rattle.eq_base.specs.Rewriting.{System, IsNormal}
 use Rattle.eq_base.specs.declared.head.Head.{Head}
 use Rattle.symbol_table.specs.Table.{Table, HasOneNumberEach, names_of}
@@ -16,15 +16,13 @@ use Rattle.orthogonal_laws.specs.declared.run.PlainEnd.TheVariants.{Normal, Spen
 use Rattle.orthogonal_laws.proofs.ReadSystems.{read_lawful}
 use Rattle.orthogonal_laws.proofs.PlainRuns.{run-derivation}
 use Rattle.orthogonal_laws.proofs.RunLaws.{run_found, one_end, spent_right}
-use Rattle.ei_program.specs.declared.loading.Loaded.{Loaded}
+use Rattle.ei_program.specs.declared.ready.Ready.{Ready}
+use Rattle.ei_program.specs.declared.settings.Settings.{Settings}
 use Rattle.ei_program.specs.Definitions.{Definitions, system, definitions_of}
 use Rattle.ei_program.specs.Loading.{IsReady}
-use Rattle.ei_program.specs.Printing.{print}
-use Rattle.ei_program.specs.Lines.{ReducesTo, PrintsForm, PrintsPast, IsSpent, ended}
-use Rattle.ei_program.specs.declared.answer.Line.{Line}
-use Rattle.ei_program.specs.declared.answer.LineKind.{LineKind}
-use Rattle.ei_program.specs.declared.answer.LineKind.TheVariants as kinds
-use Rattle.ei_program.specs.Answering.{IsFormLineBy, IsLineOfForm, IsLineBy, IsLineOf}
+use Rattle.term_input.specs.Printing.{print}
+use Rattle.ei_program.specs.Lines.{ReducesTo, IsSpent, ended}
+use Rattle.ei_program.specs.Stepping.{IsFormText, IsLineText}
 use Rattle.ei_program.proofs.Holding.{system-held}
 
 module _ (d : Definitions) (lawful : IsLawful (system d)) (budget : ℕ) (t : Tree ReadHead) where
@@ -45,14 +43,13 @@ module _ (d : Definitions) (lawful : IsLawful (system d)) (budget : ℕ) (t : Tr
     last = last;
     run = run;
     unfinished = unfinished;
-    longer = λ form derivable normal.
-        let found = run_found (system d) lawful.well_formed lawful.orthogonal t form derivable normal in
-        (found.0, found.1, spent_right (system d) lawful.well_formed lawful.orthogonal t last form budget found.0 run unfinished found.1);
+    ends = λ form derivable normal. run_found (system d) lawful.well_formed lawful.orthogonal t form derivable normal;
+    longer = λ form steps length. spent_right (system d) lawful.well_formed lawful.orthogonal t last form budget steps run unfinished length;
     written = refl;
   }
 
 -- The run of a held term.
-module _ (l : Loaded) (ready : IsReady l) (one : HasOneNumberEach l.symbols) (budget : ℕ) (t : Tree Head) (new : Table) (end : PlainEnd)
+module _ (l : Ready) (ready : IsReady l) (one : HasOneNumberEach l.symbols) (budget : ℕ) (t : Tree Head) (new : Table) (end : PlainEnd)
     (is_end : IsEnd (read_system l.symbols l.regular) (read l.symbols t) budget new end) where
   abbrev d : Definitions
   d = definitions_of l
@@ -76,13 +73,8 @@ module _ (l : Loaded) (ready : IsReady l) (one : HasOneNumberEach l.symbols) (bu
       spent d lawful budget (read l.symbols t) (read new last) held.0 held.1
 
 -- the line of the normal form to which a term reduces is the term's line
-pub form_line : (budget : ℕ) (d : Definitions) (t form : Tree ReadHead) (line : Line) → ReducesTo budget d t form → IsLineOfForm d form line → IsLineOf budget d t line
-form_line budget d t form line reduced (bytes, prints, is) = (bytes, by_kind line.kind prints, is)
-  where
-    by_kind : (kind : LineKind) → IsFormLineBy kind d form bytes → IsLineBy budget kind d t bytes
-    by_kind kinds.NormalForm prints = (form, reduced, prints)
-    by_kind kinds.Past prints = (form, reduced, prints)
-    by_kind kinds.Spent prints = absurd prints
+pub form_text : (settings : Settings) (d : Definitions) (t form : Tree ReadHead) (text : List ℕ) → ReducesTo settings.budget d t form → IsFormText settings d form text → IsLineText settings d t text
+form_text settings d t form text reduced (line, is, ended) = (line, inl (form, reduced, is), ended)
 
 -- ---- the line of a normal form that is held
 
@@ -90,23 +82,27 @@ form_line budget d t form line reduced (bytes, prints, is) = (bytes, by_kind lin
 first_part : {A : Type 0} (t : Tree A) → nth_subtree t 0 ≡ t
 first_part (node a ts) = refl
 
-module _ (l : Loaded) (form : Tree Head) where
+module _ (l : Ready) (settings : Settings) (form : Tree Head) (text : List ℕ) where
   abbrev held : Tree ReadHead
   held = read l.symbols form
 
   abbrev part : ℕ → List ℕ
-  part at = print l.syntax (names_of l.symbols) (nth_subtree held at)
+  part at = print settings.syntax (names_of l.symbols) (nth_subtree held at)
 
-  pub prints_past : {E : Type 0} (at : ℕ) → IsFirstPast (read_system l.symbols l.regular) held at → (r : Result Line E) → IfOk r (λ line. line.kind ≡ kinds.Past) → IfOk r (λ line. line.text.items ≡ ended (codes "? past " ++ part at))
-      → IfOk r (IsLineOfForm (definitions_of l) held)
-  prints_past at first (Err e) kind text = tt
-  prints_past at first (Ok line) kind text =
-      let prints : PrintsPast (definitions_of l) held (codes "? past " ++ part at) = record { at = at; first = subst (λ s. IsFirstPast s held at) (sym (system-held l)) first; printed = refl } in
-      (codes "? past " ++ part at, subst (λ k. IsFormLineBy k (definitions_of l) held (codes "? past " ++ part at)) (sym kind) prints, text)
+  abbrev IsText : Type 0
+  IsText = IsFormText settings (definitions_of l) held text
 
-  pub prints_form : {E : Type 0} → HasNoPast (read_system l.symbols l.regular) held → (r : Result Line E) → IfOk r (λ line. line.kind ≡ kinds.NormalForm) → IfOk r (λ line. line.text.items ≡ ended (part 0))
-      → IfOk r (IsLineOfForm (definitions_of l) held)
-  prints_form clean (Err e) kind text = tt
-  prints_form clean (Ok line) kind text =
-      let prints : PrintsForm (definitions_of l) held (part 0) = record { clean = subst (λ s. HasNoPast s held) (sym (system-held l)) clean; printed = ap (print l.syntax (names_of l.symbols)) (first_part held) } in
-      (part 0, subst (λ k. IsFormLineBy k (definitions_of l) held (part 0)) (sym kind) prints, text)
+  -- the text of the first part that is past the limits
+  pub tells_past : (at : ℕ) → IsFirstPast (read_system l.symbols l.regular) held at → text ≡ ended (codes "? past " ++ part at) → IsText
+  tells_past at first is =
+      (codes "? past " ++ part at, inr (inl (record { at = at; first = subst (λ s. IsFirstPast s held at) (sym (system-held l)) first; printed = refl })), is)
+
+  -- that of a normal form with too many nodes
+  pub tells_large : HasNoPast (read_system l.symbols l.regular) held → settings.most < size held → text ≡ ended (codes "? large") → IsText
+  tells_large clean large is =
+      (codes "? large", inr (inr (record { clean = subst (λ s. HasNoPast s held) (sym (system-held l)) clean; large = large; written = refl })), is)
+
+  -- that of any other
+  pub prints_form : HasNoPast (read_system l.symbols l.regular) held → size held ≤ settings.most → text ≡ ended ([] ++ part 0) → IsText
+  prints_form clean small is =
+      (part 0, inl (record { clean = subst (λ s. HasNoPast s held) (sym (system-held l)) clean; small = small; printed = ap (print settings.syntax (names_of l.symbols)) (first_part held) }), is)

@@ -16,9 +16,9 @@ use Rattle.sequentiality.specs.declared.regular.AdmitError.TheVariants.{Broken a
 use Rattle.orthogonal_laws.specs.Operations.{AreTruthsKnown}
 use Rattle.ei_program.specs.declared.stop.Stop.TheVariants.{NoMemory, ReadFailed, WriteFailed}
 use Rattle.ei_program.specs.declared.outcome.Outcome.{Outcome}
-use Rattle.ei_program.specs.declared.outcome.Outcome.TheVariants.{Answered, Questions, BadWords, FileRefused, Broken, TermRefused, Stopped}
+use Rattle.ei_program.specs.declared.outcome.Outcome.TheVariants.{Answered, Questions, BadWords, FileRefused, Broken, TermRefused, InputLong, Stopped}
 use Rattle.ei_program.specs.declared.definitions.Equations.{Equations}
-use Rattle.ei_program.specs.declared.loading.Loaded.{Loaded}
+use Rattle.ei_program.specs.declared.ready.Ready.{Ready}
 use Rattle.qualifiers.specs.AsRead.{plain_equation}
 use Rattle.ei_program.specs.Definitions.{Definitions, BreaksNone, Defines, definitions_in, definitions_of}
 use Rattle.ei_program.specs.Restrictions.{origin_of, broken_text, AreBroken}
@@ -27,7 +27,7 @@ use Rattle.ei_program.proofs.Broken.{told_read, lists_read, none_read}
 
 module _ (syntax : Syntax) (file : List ℕ) (equations : Equations) where
   -- a file whose equations were admitted, or refused
-  pub admit_loaded : (found : Option (List ℕ)) (r : Result Loaded Outcome) → found ≡ Some file → Defines syntax file (definitions_in equations) → IsAdmitted equations r → IsLoaded syntax found r
+  pub admit_loaded : (found : Option (List ℕ)) (r : Result Ready Outcome) → found ≡ Some file → Defines syntax file (definitions_in equations) → IsAdmitted equations r → IsLoaded syntax found r
   admit_loaded found (Ok loaded) is defines (same, ready) =
       (file, is, subst (Defines syntax file) (sym same) defines, ready.accepted.regular)
   admit_loaded found (Err (Broken breaks rules)) is defines broken = (file, definitions_in equations, is, defines, broken)
@@ -39,22 +39,23 @@ module _ (syntax : Syntax) (file : List ℕ) (equations : Equations) where
   admit_loaded found (Err BadWords) is defines a = absurd a
   admit_loaded found (Err (FileRefused fault)) is defines a = absurd a
   admit_loaded found (Err (TermRefused fault)) is defines a = absurd a
+  admit_loaded found (Err InputLong) is defines a = absurd a
 
   -- the equations that were admitted can be used
-  pub admit_ready : (r : Result Loaded Outcome) → IsAdmitted equations r → IfOk r IsReady
+  pub admit_ready : (r : Result Ready Outcome) → IsAdmitted equations r → IfOk r IsReady
   admit_ready (Ok loaded) (same, ready) = ready
   admit_ready (Err outcome) a = tt
 
 -- equations that keep the restrictions can be used
-pub admitted : (e : Equations) (rules : RuleList) (file : List ℕ) → Defines e.syntax file (definitions_in e) → AreUsable e
+pub admitted : (e : Equations) (rules : RuleList) (syntax : Syntax) (file : List ℕ) → Defines syntax file (definitions_in e) → AreUsable e
     → HasOneNumberEach e.symbols → rules ≡ e.rules → AreRegular rules
-    → IsAdmitted e (Ok (record { syntax = e.syntax; symbols = e.symbols; variables = e.variables; regular = rules }))
-admitted e rules file defines usable one same regular =
-    let held : Loaded = record { syntax = e.syntax; symbols = e.symbols; variables = e.variables; regular = rules } in
-    let is : definitions_of held ≡ definitions_in e = ap (λ (r : RuleList). definitions_in (record { syntax = e.syntax; symbols = e.symbols; variables = e.variables; rules = r })) same in (
+    → IsAdmitted e (Ok (record { symbols = e.symbols; regular = rules }))
+admitted e rules syntax file defines usable one same regular =
+    let held : Ready = record { symbols = e.symbols; regular = rules } in
+    let is : definitions_of held ≡ definitions_in e = ap (λ (r : RuleList). definitions_in (record { symbols = e.symbols; rules = r })) same in (
       is,
       record {
-        accepted = record { file = file; defines = subst (Defines e.syntax file) (sym is) defines; regular = subst BreaksNone (sym is) (none_read e.symbols one e.rules usable.live (subst AreRegular same regular).no_violation) };
+        accepted = record { syntax = syntax; file = file; defines = subst (Defines syntax file) (sym is) defines; regular = subst BreaksNone (sym is) (none_read e.symbols one e.rules usable.live (subst AreRegular same regular).no_violation) };
         regular = regular;
         live = subst (AreLive e.symbols) (sym same) usable.live;
         truths = subst (AreTruthsKnown e.symbols) (sym same) usable.truths;

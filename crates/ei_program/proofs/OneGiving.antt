@@ -38,11 +38,9 @@ module _ (syntax : Syntax) (text : List ℕ) where
       let same = says_one lawful text g.read h.read g.says h.says in
       let expanded : ◌≡◌ {A = Result (List (PlainEquation ReadHead)) Fault} (Ok d.equations) (Ok e.equations) = one_expanding g.read h.read g.says h.says (Ok d.equations) (Ok e.equations) g.expansion h.expansion in
       let equations : d.equations ≡ e.equations = cc in
-      let notations = g.notation ∙ sym h.notation in
       let names = g.names ∙ ap (λ (r : ReadDefinitions). r.names) same ∙ sym h.names in
       let classes = g.classes ∙ ap (λ (r : ReadDefinitions). r.classes) same ∙ sym h.classes in
-      let variables = g.variables ∙ ap (λ (r : ReadDefinitions). r.variables) same ∙ sym h.variables in
-      λ i. record { syntax = notations i; names = names i; classes = classes i; variables = variables i; equations = equations i }
+      λ i. record { names = names i; classes = classes i; equations = equations i }
 
   pub given_distinct : (d : Definitions) → Defines syntax text d → HasDistinctNames d.names
   given_distinct d g = subst HasDistinctNames (sym g.names) (says_distinct lawful text g.read g.says)

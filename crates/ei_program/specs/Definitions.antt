@@ -16,15 +16,13 @@ use Rattle.qualifiers.specs.AsRead.{IsExpansion, IsExpanding, plain_equations}
 use Rattle.regularity.specs.declared.breaks.Break.{Break}
 use Rattle.sequentiality.specs.Restrictions.{IsViolation}
 use Rattle.ei_program.specs.declared.definitions.Equations.{Equations}
-use Rattle.ei_program.specs.declared.loading.Loaded.{Loaded}
+use Rattle.ei_program.specs.declared.ready.Ready.{Ready}
 
--- the notation, what is declared and included, the heads of each class of the file, the names of the variables, and the
--- equations, with the alternatives of variables put in their places
+-- what is declared and included, the heads of each class of the file, and the equations, with the alternatives of
+-- variables put in their places
 pub record Definitions : Type 0 where
-  pub syntax : Syntax
   pub names : Table
   pub classes : List (List ReadHead)
-  pub variables : List (List ℕ)
   pub equations : List (PlainEquation ReadHead)
 
 -- the rule of an equation
@@ -51,10 +49,8 @@ pub record Defines (syntax : Syntax) (text : List ℕ) (d : Definitions) : Type 
   pub read : ReadDefinitions
   pub says : Says (notation_of syntax) text read
   pub expansion : IsExpansion read d.equations
-  pub notation : d.syntax ≡ syntax
   pub names : d.names ≡ read.names
   pub classes : d.classes ≡ read.classes
-  pub variables : d.variables ≡ read.variables
 
 -- the file can be read, but not expanded, and this is its first fault
 pub record HasExpansionFault (syntax : Syntax) (text : List ℕ) (fault : Fault) : Type 0 where
@@ -69,8 +65,9 @@ RefusesFile syntax text fault =
 
 -- a file gives the definitions, and the equations break no restriction
 pub record IsAccepted (d : Definitions) : Type 0 where
+  pub syntax : Syntax
   pub file : List ℕ
-  pub defines : Defines d.syntax file d
+  pub defines : Defines syntax file d
   pub regular : BreaksNone d
 
 -- the root steps by the equations are exactly the instances of the file's own items: of its equations as they are
@@ -86,19 +83,15 @@ HasWrittenSteps syntax text d = (read : ReadDefinitions) → Says (notation_of s
 -- what the reader of a file holds
 abbrev pub definitions_in : Equations → Definitions
 definitions_in e = record {
-  syntax = e.syntax;
   names = names_of e.symbols;
   classes = read_classes e.symbols e.rules.classes;
-  variables = e.variables;
   equations = plain_equations e.symbols e.rules.equations;
 }
 
 -- what a program holds that loaded a file
-abbrev pub definitions_of : Loaded → Definitions
-definitions_of l = record {
-  syntax = l.syntax;
-  names = names_of l.symbols;
-  classes = read_classes l.symbols l.regular.classes;
-  variables = l.variables;
-  equations = plain_equations l.symbols l.regular.equations;
+abbrev pub definitions_of : Ready → Definitions
+definitions_of ready = record {
+  names = names_of ready.symbols;
+  classes = read_classes ready.symbols ready.regular.classes;
+  equations = plain_equations ready.symbols ready.regular.equations;
 }

@@ -14,7 +14,7 @@ use Rattle.ei_program.specs.declared.stop.Stop.TheVariants.{NoMemory, ReadFailed
 use Rattle.ei_program.specs.declared.outcome.Outcome.{Outcome}
 use Rattle.ei_program.specs.declared.outcome.Outcome.TheVariants.{BadWords, FileRefused, Broken, Stopped}
 use Rattle.ei_program.specs.declared.definitions.Equations.{Equations}
-use Rattle.ei_program.specs.declared.loading.Loaded.{Loaded}
+use Rattle.ei_program.specs.declared.ready.Ready.{Ready}
 use Rattle.ei_program.specs.Definitions.{Definitions, BreaksNone, IsAccepted, Defines, RefusesFile, definitions_in, definitions_of}
 use Rattle.ei_program.specs.Restrictions.{AreBroken}
 
@@ -34,21 +34,21 @@ pub record AreUsable (e : Equations) : Type 0 where
   pub truths : AreTruthsKnown e.symbols e.rules
 
 -- the equations that a program holds are accepted, keep the restrictions, and can be used
-pub record IsReady (l : Loaded) : Type 0 where
+pub record IsReady (l : Ready) : Type 0 where
   pub accepted : IsAccepted (definitions_of l)
   pub regular : AreRegular l.regular
   pub live : AreLive l.symbols l.regular
   pub truths : AreTruthsKnown l.symbols l.regular
 
 -- the equations break no restriction and are as before; or they break these; or memory ran out
-abbrev pub IsAdmitted : Equations → Result Loaded Outcome → Type 0
+abbrev pub IsAdmitted : Equations → Result Ready Outcome → Type 0
 IsAdmitted equations (Ok loaded) = (definitions_of loaded ≡ definitions_in equations) × IsReady loaded
 IsAdmitted equations (Err (Broken breaks rules)) = AreBroken (definitions_in equations) breaks rules
 IsAdmitted equations (Err (Stopped NoMemory)) = Unit {0}
 IsAdmitted equations (Err outcome) = ⊥
 
 -- the file gives equations that break no restriction; or it is not accepted, with this outcome
-abbrev pub IsLoaded : Syntax → Option (List ℕ) → Result Loaded Outcome → Type 0
+abbrev pub IsLoaded : Syntax → Option (List ℕ) → Result Ready Outcome → Type 0
 IsLoaded syntax found (Ok loaded) = (file : List ℕ) × (found ≡ Some file)
     × Defines syntax file (definitions_of loaded) × BreaksNone (definitions_of loaded)
 IsLoaded syntax found (Err (FileRefused fault)) = (file : List ℕ) × (found ≡ Some file)

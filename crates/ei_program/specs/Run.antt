@@ -1,21 +1,23 @@
--- What a run leaves, by its outcome.
-use Rattle.std.specs.Prelude.{◌≡◌, ◌⊎◌, ℕ, ◌≤◌, ◌^◌, List, [], ◌++◌, length}
-use Rattle.std.specs.declared.option.Option.{Option}
-use Rattle.std.specs.declared.option.Option.TheVariants.{Some}
+-- What a run comes to: its phases, and then its mode.
+use Rattle.std.specs.Prelude.{◌≡◌, ◌≢◌, ◌⊎◌, ℕ, ◌^◌, List, [], ◌++◌, Result, Ok, Err, Option, Some, None}
 use Rattle.std.specs.Io.KnownBytes.{Appends}
-use Rattle.eq_base.specs.Tree.{Tree}
-use Rattle.eq_base.specs.ReadHead.{ReadHead}
-use Rattle.ei_program.specs.declared.words.Task.{Task}
-use Rattle.ei_program.specs.declared.words.Mode.TheVariants.{Answer, Check}
-use Rattle.ei_program.specs.declared.stop.Stop.{Stop}
+use Rattle.symbol_table.specs.Table.{IsFront}
+use Rattle.command_line.specs.declared.task.Mode.{Mode}
+use Rattle.command_line.specs.declared.task.Mode.TheVariants.{Answer, Check}
+use Rattle.command_line.specs.declared.task.Task.{Task}
+use Rattle.command_line.specs.Asked.{Asks, IsCommandLine}
+use Rattle.ei_program.specs.declared.settings.Settings.{Settings}
 use Rattle.ei_program.specs.declared.stop.Stop.TheVariants.{NoMemory, ReadFailed, WriteFailed}
 use Rattle.ei_program.specs.declared.outcome.Outcome.{Outcome}
-use Rattle.ei_program.specs.declared.outcome.Outcome.TheVariants.{Answered, Questions, BadWords, FileRefused, Broken, TermRefused, Stopped}
-use Rattle.ei_program.specs.Words.{Asks, IsCommandLine}
-use Rattle.ei_program.specs.Definitions.{Definitions, Defines, RefusesFile, BreaksNone}
-use Rattle.ei_program.specs.Restrictions.{AreBroken}
-use Rattle.ei_program.specs.Input.{Terms, Holds, HasInputFault, RefusesInput}
-use Rattle.ei_program.specs.Lines.{IsNormalForm, IsQuestion, IsLine, AreLines, SomeLine, ended, text_of_lines, accepted_line}
+use Rattle.ei_program.specs.declared.outcome.Outcome.TheVariants.{BadWords, Stopped}
+use Rattle.ei_program.specs.Definitions.{Definitions}
+use Rattle.ei_program.specs.Accepting.{Accepts}
+use Rattle.ei_program.specs.Lines.{bytes_of}
+use Rattle.ei_program.specs.Outcomes.{Told, told_of}
+use Rattle.ei_program.specs.Phases.{Then}
+use Rattle.ei_program.specs.Done.{Done, ended_early, IsLeft}
+use Rattle.ei_program.specs.Answering.{AnswersText, AnswersFirst, IsCutShort}
+use Rattle.ei_program.specs.Checking.{checked}
 
 -- what a run is given: its words, the bytes under each name, and its input
 pub record Given : Type 0 where
@@ -23,144 +25,136 @@ pub record Given : Type 0 where
   pub named : List ℕ → Option (List ℕ)
   pub input : List ℕ
 
--- the words ask for this, with a file that holds these bytes
-pub record HasFile (given : Given) (task : Task) (bytes : List ℕ) : Type 0 where
-  pub name : List ℕ
-  pub asked : Asks given.words task name
-  pub found : given.named name ≡ Some bytes
+-- what words ask for: a task, with the name of a file of definitions and, perhaps, that of one with terms
+pub record Command : Type 0 where
+  pub task : Task
+  pub file : List ℕ
+  pub terms : Option (List ℕ)
 
--- the file gives these definitions
-pub record HasDefinitions (given : Given) (task : Task) (d : Definitions) : Type 0 where
-  pub bytes : List ℕ
-  pub file : HasFile given task bytes
-  pub defines : Defines task.syntax bytes d
+-- how terms are read and answered for a task
+abbrev pub settings_of : Task → Settings
+settings_of task = record {
+  syntax = task.syntax;
+  budget = task.budget;
+  most = task.most;
+  input_bytes = 2 ^ 40;
+}
 
--- the file gives these definitions, and they break no restriction
-pub record Accepts (given : Given) (task : Task) (d : Definitions) : Type 0 where
-  pub definitions : HasDefinitions given task d
-  pub regular : BreaksNone d
+-- ---- the phases
 
--- the words ask that the terms are answered, and the file is accepted
-abbrev pub AcceptsAnswer : Given → ℕ → Definitions → Type 0
-AcceptsAnswer given budget d = Accepts given (record { syntax = d.syntax; mode = Answer budget }) d
+-- the words are a command line, or are none
+abbrev pub HasWords : Given → Result Command Told → Type 0
+HasWords given (Ok command) = Asks given.words command.task command.file command.terms
+HasWords given (Err told) = (¬ IsCommandLine given.words) × (told ≡ told_of BadWords)
 
--- the words ask that the file is checked, and it is accepted
-abbrev pub AcceptsCheck : Given → Definitions → Type 0
-AcceptsCheck given d = Accepts given (record { syntax = d.syntax; mode = Check }) d
+-- the file of that name has these bytes, or is not there
+abbrev pub HasFile : Given → List ℕ → Result (List ℕ) Told → Type 0
+HasFile given name (Ok bytes) = given.named name ≡ Some bytes
+HasFile given name (Err told) = (given.named name ≡ None) × (told ≡ told_of (Stopped ReadFailed))
 
--- ---- the answering of a text's terms
+-- the file that the words name defines this
+abbrev pub HasDefinitions : Given → Command → Result Definitions Told → Type 0
+HasDefinitions given command r = Then (HasFile given command.file) (Accepts command.task.syntax) r
 
--- all terms of the text are answered
-pub record AreAnswers (Fits : Tree ReadHead → List ℕ → Type 0) (d : Definitions) (text : List ℕ)
-    (lines : List (List ℕ)) : Type 0 where
-  pub terms : List (Tree ReadHead)
-  pub reads : Holds d.syntax d.names text terms
-  pub fit : AreLines Fits terms lines
+-- where terms come from: a named file, or else the input
+abbrev pub HasTerms : Given → Option (List ℕ) → Result (List ℕ) Told → Type 0
+HasTerms given (Some name) r = HasFile given name r
+HasTerms given None r = r ≡ Ok given.input
 
--- the first terms of the text are answered
-pub record AnswersFirst (budget : ℕ) (d : Definitions) (text : List ℕ) (lines : List (List ℕ)) : Type 0 where
-  pub terms : List (Tree ReadHead)
-  pub last : ℕ
-  pub reads : Terms d.syntax d.names text 0 terms last
-  pub fit : AreLines (IsLine budget d) terms lines
+-- ---- the modes
 
--- all terms are answered, and some by a line that begins with `?`
-pub record AnswersInPart (budget : ℕ) (d : Definitions) (text : List ℕ) (lines : List (List ℕ)) : Type 0 where
-  pub answers : AreAnswers (IsLine budget d) d text lines
-  pub some : SomeLine (IsQuestion budget d) answers.terms lines
+-- the phase that ends the run, where the work of its mode is done
+abbrev pub IsWork : (Done → Type 0) → Result Done Told → Type 0
+IsWork Work (Ok done) = Work done
+IsWork Work (Err told) = ⊥
 
--- what was written when a text was answered, by the outcome
-abbrev pub TextLeft : ℕ → Definitions → List ℕ → Outcome → List ℕ → Type 0
-TextLeft budget d text Answered written = (lines : List (List ℕ))
-    × AreAnswers (IsNormalForm budget d) d text lines × (written ≡ text_of_lines lines)
-TextLeft budget d text Questions written = (lines : List (List ℕ)) × AnswersInPart budget d text lines
-    × (written ≡ text_of_lines lines)
-TextLeft budget d text (TermRefused fault) written = HasInputFault d.syntax d.names text fault × (written ≡ [])
--- whole lines of the first terms
-TextLeft budget d text (Stopped NoMemory) written = (lines : List (List ℕ)) × AnswersFirst budget d text lines
-    × (written ≡ text_of_lines lines)
--- a front of the lines of the first terms
-TextLeft budget d text (Stopped WriteFailed) written = (lines : List (List ℕ)) × (back : List ℕ)
-    × AnswersFirst budget d text lines × (written ++ back ≡ text_of_lines lines)
-TextLeft budget d text outcome written = ⊥
+-- the terms of the text are answered for a command
+abbrev pub AnswersTerms : Command → Definitions → List ℕ → Done → Type 0
+AnswersTerms command d text done = AnswersText (settings_of command.task) d command.terms text done
 
--- ---- the answering of the input
-
--- the bytes were taken from the input, and answered with this outcome
-pub record TakenLeft (budget : ℕ) (d : Definitions) (input : List ℕ) (outcome : Outcome)
-    (written : List ℕ) : Type 0 where
-  pub taken : List ℕ
-  pub rest : List ℕ
-  pub parts : input ≡ taken ++ rest
-  pub answered : TextLeft budget d taken outcome written
-
--- a read failed behind the bytes that were taken, and their terms were answered
-pub record CutLeft (budget : ℕ) (d : Definitions) (input : List ℕ) (left : Option (List ℕ))
-    (written : List ℕ) : Type 0 where
-  pub outcome : Outcome
-  pub answered : TakenLeft budget d input outcome written
-  pub leaves : left ≡ Some answered.rest
-  pub goes_on : (stop : Stop) → outcome ≡ Stopped stop → ⊥
-
--- what is left of the input, and what was written, by the outcome
-abbrev pub InputLeft : ℕ → Definitions → List ℕ → Option (List ℕ) → Outcome → List ℕ → Type 0
--- read to its end
-InputLeft budget d input left Answered written = (left ≡ Some []) × (length input ≤ 2 ^ 24)
-    × TextLeft budget d input Answered written
-InputLeft budget d input left Questions written = (left ≡ Some []) × (length input ≤ 2 ^ 24)
-    × TextLeft budget d input Questions written
--- longer than may be taken, or refused
-InputLeft budget d input left (TermRefused fault) written = RefusesInput d.syntax d.names input fault
-    × (written ≡ [])
-InputLeft budget d input left (Stopped ReadFailed) written = CutLeft budget d input left written
-InputLeft budget d input left outcome written = TakenLeft budget d input outcome written
+-- what a mode does with what the file defines
+abbrev pub DoesMode : Mode → Given → Command → Definitions → Result Done Told → Type 0
+DoesMode Answer given command d r =
+    Then (HasTerms given command.terms) (λ text. IsWork (AnswersTerms command d text)) r
+DoesMode Check given command d r = r ≡ Ok (checked d)
 
 -- ---- the run
 
--- nothing was taken of the input, and nothing written
-abbrev pub Untouched : Given → Option (List ℕ) → List ℕ → Type 0
-Untouched given left written = (left ≡ Some given.input) × (written ≡ [])
+-- the words, the file, and then the mode
+abbrev pub Comes : Given → Result Done Told → Type 0
+Comes given r = Then (HasWords given)
+    (λ command. Then (HasDefinitions given command) (DoesMode command.task.mode given command)) r
 
--- the run stopped before anything was answered
-abbrev pub StopsEarly : Outcome → Type 0
-StopsEarly (Stopped NoMemory) = Unit {0}
-StopsEarly (Stopped ReadFailed) = Unit {0}
-StopsEarly outcome = ⊥
+-- what is done where a phase may have ended the run
+abbrev pub done_of : Result Done Told → Done
+done_of (Ok done) = done
+done_of (Err told) = ended_early told
 
--- what was written when an accepted file was told of, by the outcome: the line, a front of it, or nothing
-abbrev pub IsChecked : Definitions → Outcome → List ℕ → Type 0
-IsChecked d Answered written = written ≡ ended (accepted_line d)
-IsChecked d (Stopped WriteFailed) written = (back : List ℕ) × (written ++ back ≡ ended (accepted_line d))
-IsChecked d (Stopped NoMemory) written = written ≡ []
-IsChecked d outcome written = ⊥
+-- what the run has to come to, where no port fails and memory is found
+pub record IsDue (given : Given) (done : Done) : Type 0 where
+  pub result : Result Done Told
+  pub comes : Comes given result
+  pub is : done ≡ done_of result
 
--- what a run leaves that accepts its file: the input is answered, or the file is told of and the input is not touched
-pub record AnswersTask (given : Given) (left : Option (List ℕ)) (outcome : Outcome)
-    (written : List ℕ) : Type 0 where
+-- ---- what a run leaves, whatever fails
+
+-- the words and the file ask that these terms are answered by these definitions
+pub record AsksFor (given : Given) (command : Command) (d : Definitions) (text : List ℕ) : Type 0 where
+  pub asks : Asks given.words command.task command.file command.terms
+  pub answers : command.task.mode ≡ Answer
+  pub defines : HasDefinitions given command (Ok d)
+  pub source : HasTerms given command.terms (Ok text)
+
+-- what is left of the text with the terms: of the named file, or else of the input
+abbrev pub left_of_terms : Option (List ℕ) → (of_file of_input : Option (List ℕ)) → Option (List ℕ)
+left_of_terms (Some name) of_file of_input = of_file
+left_of_terms None of_file of_input = of_input
+
+-- the input is as it was, where the terms come from a named file
+abbrev pub IsInputKept : Given → Option (List ℕ) → (of_input : Option (List ℕ)) → Type 0
+IsInputKept given (Some name) of_input = of_input ≡ Some given.input
+IsInputKept given None of_input = Unit {0}
+
+-- a read of the terms failed behind a front of them, which was answered
+pub record IsStoppedShort (given : Given) (of_file of_input : Option (List ℕ)) (written : List ℕ) : Type 0 where
+  pub command : Command
   pub definitions : Definitions
-  pub budget : ℕ
-  pub accepts : AcceptsAnswer given budget definitions
-  pub answered : InputLeft budget definitions given.input left outcome written
+  pub text : List ℕ
+  pub asks : AsksFor given command definitions text
+  pub cut : IsCutShort (settings_of command.task) definitions text
+      (left_of_terms command.terms of_file of_input) written
+  pub input : IsInputKept given command.terms of_input
 
-pub record ChecksTask (given : Given) (left : Option (List ℕ)) (outcome : Outcome)
-    (written : List ℕ) : Type 0 where
+-- what a mode may have written before its end, in whole lines
+abbrev pub BeginsMode : Mode → Given → Command → Definitions → List (List ℕ) → Type 0
+BeginsMode Answer given command d lines = (text : List ℕ) × HasTerms given command.terms (Ok text)
+    × AnswersFirst (settings_of command.task) d text lines
+BeginsMode Check given command d lines = IsFront lines (checked d).lines
+
+-- the words and the file ask for a mode that may have written these lines before its end
+pub record HasBegun (given : Given) (lines : List (List ℕ)) : Type 0 where
+  pub command : Command
   pub definitions : Definitions
-  pub accepts : AcceptsCheck given definitions
-  pub untouched : left ≡ Some given.input
-  pub told : IsChecked definitions outcome written
+  pub asks : Asks given.words command.task command.file command.terms
+  pub defines : HasDefinitions given command (Ok definitions)
+  pub begun : BeginsMode command.task.mode given command definitions lines
 
--- what is left of the input, and what was written to the output, by the outcome
-abbrev pub Leaves : Given → Option (List ℕ) → Outcome → List ℕ → Type 0
-Leaves given left BadWords written = (¬ IsCommandLine given.words) × Untouched given left written
-Leaves given left (FileRefused fault) written =
-    ((task : Task) × (bytes : List ℕ) × HasFile given task bytes × RefusesFile task.syntax bytes fault)
-    × Untouched given left written
-Leaves given left (Broken breaks rules) written =
-    ((task : Task) × (d : Definitions) × HasDefinitions given task d × AreBroken d breaks rules)
-    × Untouched given left written
-Leaves given left outcome written =
-    AnswersTask given left outcome written
-    ⊎ (ChecksTask given left outcome written ⊎ (StopsEarly outcome × Untouched given left written))
+-- a run may have written these lines before its end
+abbrev pub Begins : Given → List (List ℕ) → Type 0
+Begins given lines = (lines ≡ []) ⊎ HasBegun given lines
+
+-- what is left of the chosen file and of the input, and written to the output, by the outcome: what is due, or a
+-- beginning of it
+abbrev pub Leaves : Given → (of_file of_input : Option (List ℕ)) → Outcome → List ℕ → Type 0
+Leaves given of_file of_input (Stopped NoMemory) written =
+    (lines : List (List ℕ)) × Begins given lines × (written ≡ bytes_of lines)
+Leaves given of_file of_input (Stopped WriteFailed) written =
+    (lines : List (List ℕ)) × Begins given lines × IsFront written (bytes_of lines)
+Leaves given of_file of_input (Stopped ReadFailed) written =
+    ((of_input ≡ Some given.input) × (written ≡ [])) ⊎ IsStoppedShort given of_file of_input written
+Leaves given of_file of_input outcome written =
+    (done : Done) × IsDue given done × (done.told ≡ told_of outcome) × IsLeft given.input done.rest of_input
+    × (written ≡ bytes_of done.lines)
 
 -- the output grew by what was written
 abbrev pub LeavesOn : (List ℕ → Type 0) → Option (List ℕ) → Option (List ℕ) → Type 0

@@ -1,135 +1,213 @@
-// The answering of the terms of a text.
-ghost use Rattle.std.specs.Prelude.{◌≡◌, ◌<◌, ◌++◌, ℕ, IfOk};
-ghost use Rattle.eq_base.specs.Tree.{Tree, size, nth_subtree};
-ghost use Rattle.eq_base.specs.ReadHead.{ReadHead};
-ghost use Rattle.symbol_table.specs.Table.{names_of};
-ghost use Rattle.symbol_table.specs.Reading.{read, IsLiveTerm};
-ghost use Rattle.ei_program.specs.Definitions.{Definitions, definitions_of};
+// The answering of the terms of an input.
+ghost use Rattle.std.specs.Prelude.{◌≡◌, ◌≢◌, ◌≤◌, ◌^◌, ℕ, List, Option, Some};
+ghost use Rattle.eq_ports.specs.Causes.{Rose};
+ghost use Rattle.symbol_table.specs.Table.{Keeps};
+ghost use Rattle.ei_program.specs.declared.stop.Stop.{Stop as WhyStopped};
+ghost use Rattle.ei_program.specs.Definitions.{definitions_of};
 ghost use Rattle.ei_program.specs.Loading.{IsReady};
-ghost use Rattle.ei_program.specs.Run.{TextLeft, LeavesOn};
-ghost use Rattle.ei_program.specs.Answering.{IsLineOf, IsLineOfForm, IsWriteOutcome, LineLeft};
-ghost use Rattle.ei_program.specs.Printing.{print};
-ghost use Rattle.ei_program.specs.Lines.{ended};
+ghost use Rattle.ei_program.specs.Outcomes.{CanBeTold};
+ghost use Rattle.ei_program.specs.Reading.{IsCounted};
+ghost use Rattle.ei_program.specs.Stepping.{WritesText, StepLeft, IsOutcomeAt};
+ghost use Rattle.ei_program.specs.Answering.{TextLeft, FileLeft};
+ghost use Rattle.ei_program.specs.Run.{LeavesOn};
 
-use crate::input::read_input;
-use crate::loading::Loaded;
-use crate::notation::write_term;
+use crate::line::line_of;
 use crate::outcome::Outcome;
+use crate::reading::{End, Next, next_term};
+use crate::ready::Ready;
+use crate::settings::Settings;
 use crate::stop::Stop;
-use eq_base::{Flat, NoMemory};
-use eq_ports::{Sink, write_whole};
-use orthogonal_laws::{PlainEnd, first_past, plain_run};
+use eq_ports::{FileSource, Files, Sink, Source, write_whole};
 use std::alloc::Global;
-use written_terms::ReadError;
+use term_input::{SourceState, Stream};
 
-/// What a line tells of its term.
+/// What was done with what comes next in an input.
 #[derive(Clone, Copy, Debug, PartialEq, Eq)]
-pub enum LineKind {
-    /// The normal form.
-    NormalForm,
-    /// That the normal form has a part whose value is past the limits: `? past w`, w being the first such part.
-    Past,
-    /// That the budget was spent: `? spent N`.
-    Spent,
+enum Step {
+    /// A term was answered, by a line that does not begin with `?`.
+    Answer,
+    /// A term was answered, by a line that begins with `?`.
+    Question,
+    /// Nothing, since the input ends.
+    End(End),
+    /// A term could not be read or answered, or its line not be written.
+    Stopped(Stop),
 }
 
-/// The line that answers a term, with its end.
-#[derive(Drop)]
-pub struct Line {
-    pub kind: LineKind,
-    pub text: Vec<u8>,
-}
-
-/// The line of a kind that prints the part of a term at a node, behind these bytes.
-fn printed(
-    alloc: Global,
-    loaded: &Loaded,
-    kind: LineKind,
-    front: &[u8],
-    term: &Flat,
-    node: usize,
-) -> Result<Line, NoMemory>
-    requires live { IsLiveTerm loaded.now.symbols term.now }
-    requires node { node < size term.now }
-    ensures kind { IfOk result (λ line. line.kind ≡ kind) }
-    ensures text { IfOk result (λ line. line.text.items ≡ ended (front.now ++ print loaded.now.syntax
-        (names_of loaded.now.symbols) (nth_subtree (read loaded.now.symbols term.now) node))) }
+/// Writes a line with its end.
+fn write_line<O: Sink>(line: &[u8], output: &mut O) -> Step
+    ensures written { WritesText line.now (O.taken output.old) (O.taken output.new) result }
+    ensures later { O.faults output.old ≤ O.faults output.new }
+    ensures write { result ≡ Step.Stopped Stop.WriteFailed → Rose (O.faults output.old) (O.faults output.new) }
+    ensures steady { result ≢ Step.Stopped Stop.WriteFailed → O.faults output.new ≡ O.faults output.old }
 {
-    let mut text = Vec::new(alloc);
-    text.extend_from_slice(front)?;
-    write_term(alloc, loaded.syntax, &loaded.symbols, term, node, &mut text)?;
-    text.push(b'\n')?;
-    Ok(Line { kind, text })
-}
-
-/// The line of a normal form: its print, or its first part whose value is past the limits.
-fn line_of_form(alloc: Global, loaded: &Loaded, form: &Flat) -> Result<Line, NoMemory>
-    requires ready { IsReady loaded.now }
-    requires live { IsLiveTerm loaded.now.symbols form.now }
-    ensures { IfOk result (IsLineOfForm (definitions_of loaded.now) (read loaded.now.symbols form.now)) }
-{
-    match first_past(&loaded.regular, &loaded.symbols, form) {
-        Some(node) => printed(alloc, loaded, LineKind::Past, b"? past ", form, node),
-        None => printed(alloc, loaded, LineKind::NormalForm, b"", form, 0),
+    if write_whole(output, line).is_err() {
+        return Step::Stopped(Stop::WriteFailed);
+    }
+    if matches!(line, [b'?', ..]) {
+        Step::Question
+    } else {
+        Step::Answer
     }
 }
 
-/// The line that answers a term.
-fn line_of(alloc: Global, loaded: &mut Loaded, budget: u64, term: Flat) -> Result<Line, NoMemory>
-    requires ready { IsReady loaded.old }
-    requires live { IsLiveTerm loaded.old.symbols term }
-    ensures { IfOk result
-        (IsLineOf budget (definitions_of loaded.old) (read loaded.old.symbols term)) }
+/// Answers the next term: reads it, reduces it, writes its line, and gives up its bytes, atoms and strings.
+fn answer_next<I: Source, O: Sink>(
+    alloc: Global,
+    ready: &mut Ready,
+    settings: &Settings,
+    stream: &mut Stream,
+    input: &mut I,
+    output: &mut O,
+) -> Step
+    requires ready { IsReady ready.old }
+    requires within { stream.old.place ≤ stream.old.limit }
+    ensures same { ready.new.regular ≡ ready.old.regular }
+    ensures keeps { Keeps ready.old.symbols ready.new.symbols }
+    ensures given_up { ((stop : WhyStopped) → result ≢ Step.Stopped stop) → ready.new.symbols ≡ ready.old.symbols }
+    ensures left { StepLeft settings.now (definitions_of ready.old) stream.old stream.new
+        (I.left input.old) (I.left input.new) (O.taken output.old) (O.taken output.new) result }
+    ensures count { IsCounted (I.faults input.old) (I.faults input.new) stream.old stream.new }
+    ensures through { I.through input.new ≡ I.through input.old }
+    ensures output_later { O.faults output.old ≤ O.faults output.new }
+    ensures write { result ≡ Step.Stopped Stop.WriteFailed → Rose (O.faults output.old) (O.faults output.new) }
+    ensures output_steady { result ≢ Step.Stopped Stop.WriteFailed → O.faults output.new ≡ O.faults output.old }
 {
-    loaded.symbols.has_one_number_each();
-    match plain_run(alloc, &loaded.regular, &mut loaded.symbols, term, budget)? {
-        PlainEnd::Normal(form, _) => line_of_form(alloc, loaded, &form),
-        PlainEnd::Spent(_) => {
-            let text = format!(in alloc; "? spent {budget}\n")?;
-            Ok(Line {
-                kind: LineKind::Spent,
-                text: text.into_bytes(),
-            })
+    let mark = ready.symbols.mark();
+    let Ok(next) = next_term(alloc, settings.syntax, &mut ready.symbols, stream, input) else {
+        return Step::Stopped(Stop::NoMemory);
+    };
+    match next {
+        Next::Term(term) => {
+            let Ok(line) = line_of(alloc, ready, settings, term) else {
+                return Step::Stopped(Stop::NoMemory);
+            };
+            ready.symbols.cut_to(mark);
+            write_line(&line, output)
+        }
+        Next::End(end) => {
+            ready.symbols.cut_to(mark);
+            Step::End(end)
         }
     }
 }
 
-/// Writes a line whole.
-fn write_line<O: Sink>(line: &Line, output: &mut O) -> Outcome
-    ensures left { (budget : ℕ) (d : Definitions) (t : Tree ReadHead) → IsLineOf budget d t line.now
-        → LeavesOn (LineLeft budget d t result) (O.taken output.old) (O.taken output.new) }
-    ensures count { IsWriteOutcome (O.faults output.old) (O.faults output.new) result }
+/// The outcome of an input that ends so.
+fn outcome_at(end: End, any_question: bool, state: SourceState) -> Outcome
+    ensures { IsOutcomeAt state end any_question result }
 {
-    if write_whole(output, &line.text).is_err() {
-        return Outcome::Stopped(Stop::WriteFailed);
-    }
-    match line.kind {
-        LineKind::NormalForm => Outcome::Answered,
-        LineKind::Past | LineKind::Spent => Outcome::Questions,
+    match (state, end) {
+        (SourceState::Failed, _) => Outcome::Stopped(Stop::ReadFailed),
+        (_, End::Refused(fault)) => Outcome::TermRefused(fault),
+        (_, End::Long) => Outcome::InputLong,
+        (_, End::Whole) if any_question => Outcome::Questions,
+        (_, End::Whole) => Outcome::Answered,
     }
 }
 
-/// Answers the term of a text, if it holds one: reads it, reduces it, and writes its line.
-pub fn answer_text<O: Sink>(
+/// Answers the terms of an input, one after another. One of them is held at a time, and its line is written before
+/// the next one is read.
+pub fn answer_input<I: Source, O: Sink>(
     alloc: Global,
-    loaded: &mut Loaded,
-    budget: u64,
-    text: &[u8],
+    ready: &mut Ready,
+    settings: &Settings,
+    input: &mut I,
     output: &mut O,
 ) -> Outcome
-    requires { IsReady loaded.old }
-    ensures left { LeavesOn (TextLeft budget (definitions_of loaded.old) text.now result)
+    requires ready { IsReady ready.old }
+    requires input_bytes { settings.now.input_bytes ≤ 2 ^ 40 }
+    ensures left { (bytes : List ℕ) → I.left input.old ≡ Some bytes
+        → LeavesOn (TextLeft settings.now (definitions_of ready.old) bytes (I.left input.new) result)
         (O.taken output.old) (O.taken output.new) }
-    ensures count { IsWriteOutcome (O.faults output.old) (O.faults output.new) result }
+    ensures same { ready.new.regular ≡ ready.old.regular }
+    ensures keeps { Keeps ready.old.symbols ready.new.symbols }
+    ensures through { I.through input.new ≡ I.through input.old }
+    ensures input_later { I.faults input.old ≤ I.faults input.new }
+    ensures read { result ≡ Outcome.Stopped Stop.ReadFailed → Rose (I.faults input.old) (I.faults input.new) }
+    ensures input_steady { result ≢ Outcome.Stopped Stop.ReadFailed → result ≢ Outcome.Stopped Stop.WriteFailed
+        → result ≢ Outcome.Stopped Stop.NoMemory → I.faults input.new ≡ I.faults input.old }
+    ensures output_later { O.faults output.old ≤ O.faults output.new }
+    ensures write { result ≡ Outcome.Stopped Stop.WriteFailed
+        → Rose (O.faults output.old) (O.faults output.new) }
+    ensures output_steady { result ≢ Outcome.Stopped Stop.WriteFailed
+        → O.faults output.new ≡ O.faults output.old }
+    ensures words { result ≢ Outcome.BadWords }
+    ensures told { CanBeTold result }
 {
-    let term = match read_input(alloc, loaded.syntax, &mut loaded.symbols, text) {
-        Ok(Some(term)) => term,
-        Ok(None) => return Outcome::Answered,
-        Err(ReadError::Refused(fault)) => return Outcome::TermRefused(fault),
-        Err(ReadError::NoMemory) => return Outcome::Stopped(Stop::NoMemory),
+    let mut stream = match Stream::new(alloc, settings.input_bytes) {
+        Ok(stream) => stream,
+        Err(_) => return Outcome::Stopped(Stop::NoMemory),
     };
-    match line_of(alloc, loaded, budget, term) {
-        Ok(line) => write_line(&line, output),
-        Err(_) => Outcome::Stopped(Stop::NoMemory),
+    let mut any_question = false;
+    'terms: loop {
+        match answer_next(alloc, ready, settings, &mut stream, input, output) {
+            Step::Answer => {}
+            Step::Question => any_question = true,
+            Step::End(end) => return outcome_at(end, any_question, stream.state()),
+            Step::Stopped(stop) => return Outcome::Stopped(stop),
+        }
     }
+}
+
+/// Answers the terms of the chosen file.
+fn answer_chosen<F: Files, O: Sink>(
+    alloc: Global,
+    ready: &mut Ready,
+    settings: &Settings,
+    files: &mut F,
+    output: &mut O,
+) -> Outcome
+    requires ready { IsReady ready.old }
+    requires input_bytes { settings.now.input_bytes ≤ 2 ^ 40 }
+    ensures kept { F.named files.new ≡ F.named files.old }
+    ensures left { (bytes : List ℕ) → F.rest files.old ≡ Some bytes
+        → LeavesOn (TextLeft settings.now (definitions_of ready.old) bytes (F.rest files.new) result)
+        (O.taken output.old) (O.taken output.new) }
+    ensures files_later { F.faults files.old ≤ F.faults files.new }
+    ensures read { result ≡ Outcome.Stopped Stop.ReadFailed → Rose (F.faults files.old) (F.faults files.new) }
+    ensures files_steady { result ≢ Outcome.Stopped Stop.ReadFailed → result ≢ Outcome.Stopped Stop.WriteFailed
+        → result ≢ Outcome.Stopped Stop.NoMemory → F.faults files.new ≡ F.faults files.old }
+    ensures output_later { O.faults output.old ≤ O.faults output.new }
+    ensures write { result ≡ Outcome.Stopped Stop.WriteFailed
+        → Rose (O.faults output.old) (O.faults output.new) }
+    ensures output_steady { result ≢ Outcome.Stopped Stop.WriteFailed
+        → O.faults output.new ≡ O.faults output.old }
+    ensures words { result ≢ Outcome.BadWords }
+    ensures told { CanBeTold result }
+{
+    let mut source = FileSource::new(files);
+    answer_input(alloc, ready, settings, &mut source, output)
+}
+
+/// Answers the terms of the named file.
+pub fn answer_file<F: Files, O: Sink>(
+    alloc: Global,
+    ready: &mut Ready,
+    settings: &Settings,
+    files: &mut F,
+    name: &str,
+    output: &mut O,
+) -> Outcome
+    requires ready { IsReady ready.old }
+    requires input_bytes { settings.now.input_bytes ≤ 2 ^ 40 }
+    ensures kept { F.named files.new ≡ F.named files.old }
+    ensures left { (named : List ℕ → Option (List ℕ)) → F.named files.old ≡ Some named
+        → LeavesOn (FileLeft settings.now (definitions_of ready.old) (named name.now) (F.rest files.new) result)
+        (O.taken output.old) (O.taken output.new) }
+    ensures files_later { F.faults files.old ≤ F.faults files.new }
+    ensures read { result ≡ Outcome.Stopped Stop.ReadFailed → Rose (F.faults files.old) (F.faults files.new) }
+    ensures files_steady { result ≢ Outcome.Stopped Stop.ReadFailed → result ≢ Outcome.Stopped Stop.WriteFailed
+        → result ≢ Outcome.Stopped Stop.NoMemory → F.faults files.new ≡ F.faults files.old }
+    ensures output_later { O.faults output.old ≤ O.faults output.new }
+    ensures write { result ≡ Outcome.Stopped Stop.WriteFailed
+        → Rose (O.faults output.old) (O.faults output.new) }
+    ensures output_steady { result ≢ Outcome.Stopped Stop.WriteFailed
+        → O.faults output.new ≡ O.faults output.old }
+    ensures words { result ≢ Outcome.BadWords }
+    ensures told { CanBeTold result }
+{
+    if files.choose(name).is_err() {
+        return Outcome::Stopped(Stop::ReadFailed);
+    }
+    answer_chosen(alloc, ready, settings, files, output)
 }

@@ -1,5 +1,6 @@
 // The definitions file: taken whole, read, and checked.
 ghost use Rattle.std.specs.Prelude.{◌≡◌, ℕ, List, Option, IfOk, IfErr, Some};
+ghost use Rattle.term_lex.specs.declared.syntax.Syntax.{Syntax as Notation};
 ghost use Rattle.ei_program.specs.Definitions.{Defines, definitions_in};
 ghost use Rattle.ei_program.specs.Outcomes.{CanBeTold};
 ghost use Rattle.ei_program.specs.Loading.{AreUsable, IsReady, IsFileTaken, IsAdmitted, IsLoaded, IsReadOutcome};
@@ -7,6 +8,7 @@ ghost use Rattle.ei_program.specs.Taking.{IsTakenFrom, IsReadCount};
 
 use crate::definitions::{Equations, read_equations};
 use crate::outcome::Outcome;
+use crate::ready::Ready;
 use crate::stop::Stop;
 use crate::taking::{Ending, Taken, take_up_to};
 use def_file::FileError;
@@ -14,24 +16,10 @@ use eq_base::NoMemory;
 use eq_ports::{FileSource, Files};
 use sequentiality::{AdmitError, Regular};
 use std::alloc::Global;
-use symbol_table::{Symbols, Variables};
 use term_lex::{Fault, FaultKind, Syntax};
 
-/// The most bytes of a definitions file or an input: 2^24.
-pub const TEXT_BYTES: usize = 16_777_216;
-
-/// What a definitions file gives whose equations break no restriction.
-#[derive(Drop)]
-pub struct Loaded {
-    /// The notation of the file, of terms and of their lines.
-    pub syntax: Syntax,
-    /// The symbols that it declares, with the atoms and strings that were read since.
-    pub symbols: Symbols,
-    /// The variables that it declares.
-    pub variables: Variables,
-    /// Its equations, in their order.
-    pub regular: Regular,
-}
+/// The most bytes of a definitions file: 2^24.
+const TEXT_BYTES: usize = 16_777_216;
 
 /// Takes the bytes of the chosen file.
 fn take_chosen<F: Files>(alloc: Global, files: &mut F) -> Result<Taken, NoMemory>
@@ -45,6 +33,7 @@ fn take_chosen<F: Files>(alloc: Global, files: &mut F) -> Result<Taken, NoMemory
 
 /// The bytes of a file, or the outcome of a run that cannot have them.
 fn take_file<F: Files>(alloc: Global, files: &mut F, name: &str) -> Result<Vec<u8>, Outcome>
+    ensures kept { F.named files.new ≡ F.named files.old }
     ensures told { IfErr result CanBeTold }
     ensures taken { (named : List ℕ → Option (List ℕ)) → F.named files.old ≡ Some named
         → IsFileTaken (named name.now) result }
@@ -67,19 +56,18 @@ fn take_file<F: Files>(alloc: Global, files: &mut F, name: &str) -> Result<Vec<u
 }
 
 /// The equations, where they break no restriction.
-fn admit(alloc: Global, equations: Equations) -> Result<Loaded, Outcome>
-    requires defined { (file : List ℕ) × Defines equations.syntax file (definitions_in equations) }
+fn admit(alloc: Global, equations: Equations) -> Result<Ready, Outcome>
+    requires defined { (syntax : Notation) × (file : List ℕ)
+        × Defines syntax file (definitions_in equations) }
     requires usable { AreUsable equations }
     ensures admitted { IsAdmitted equations result }
     ensures told { IfErr result CanBeTold }
 {
     equations.symbols.has_one_number_each();
     match Regular::admit(alloc, equations.rules) {
-        Ok(regular) => Ok(Loaded {
-            syntax: equations.syntax,
-            symbols: equations.symbols,
-            variables: equations.variables,
+        Ok(regular) => Ok(Ready {
             regular,
+            symbols: equations.symbols,
         }),
         Err(AdmitError::Broken(breaks, rules)) => Err(Outcome::Broken(breaks, rules)),
         Err(AdmitError::NoMemory) => Err(Outcome::Stopped(Stop::NoMemory)),
@@ -92,7 +80,8 @@ pub fn load<F: Files>(
     syntax: Syntax,
     files: &mut F,
     name: &str,
-) -> Result<Loaded, Outcome>
+) -> Result<Ready, Outcome>
+    ensures kept { F.named files.new ≡ F.named files.old }
     ensures loaded { (named : List ℕ → Option (List ℕ)) → F.named files.old ≡ Some named
         → IsLoaded syntax (named name.now) result }
     ensures ready { IfOk result IsReady }

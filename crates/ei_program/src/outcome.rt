@@ -15,7 +15,7 @@ use term_lex::Fault;
 /// What comes of a run.
 #[derive(Drop)]
 pub enum Outcome {
-    /// Every term was answered, each by its normal form; or the file was accepted.
+    /// Every term was answered, and no line begins with `?`; or the file was accepted.
     Answered,
     /// Every term was answered, some by a line that begins with `?`.
     Questions,
@@ -25,8 +25,10 @@ pub enum Outcome {
     FileRefused(Fault),
     /// The equations break restrictions: these breaks, in order, and the equations.
     Broken(Breaks, Rules),
-    /// The term of the input was refused, for this fault.
+    /// A term was refused, for this fault.
     TermRefused(Fault),
+    /// The terms have more bytes than may be read.
+    InputLong,
     /// The run stopped before its end.
     Stopped(Stop),
 }
@@ -43,6 +45,7 @@ impl Outcome {
             Outcome::FileRefused(_) => Status::File,
             Outcome::Broken(_, _) => Status::Broken,
             Outcome::TermRefused(_) => Status::Term,
+            Outcome::InputLong => Status::InputLong,
             Outcome::Stopped(Stop::NoMemory) => Status::NoMemory,
             Outcome::Stopped(Stop::ReadFailed) => Status::ReadFailed,
             Outcome::Stopped(Stop::WriteFailed) => Status::WriteFailed,
@@ -59,6 +62,7 @@ impl Outcome {
             Outcome::FileRefused(fault) => refusal(alloc, "equations", *fault)?,
             Outcome::TermRefused(fault) => refusal(alloc, "term", *fault)?,
             Outcome::Broken(breaks, rules) => broken_text(alloc, rules, breaks)?,
+            Outcome::InputLong => String::from_str(alloc, "ei: input too long\n")?,
             Outcome::BadWords => String::from_str(alloc, "ei: bad command line\n")?,
             Outcome::Stopped(Stop::NoMemory) => String::from_str(alloc, "ei: no memory\n")?,
             Outcome::Stopped(Stop::ReadFailed) => String::from_str(alloc, "ei: read failed\n")?,

@@ -1,80 +1,52 @@
-// The run: the words, the definitions file, and the terms of the input.
-ghost use Rattle.std.specs.Prelude.{◌≡◌, ◌≢◌, ◌⊎◌, ◌≤◌, ◌↔◌, ℕ, List, Option, Some, map, string_bytes};
+// The run: the words, the definitions file, and then the mode.
+ghost use Rattle.std.specs.Prelude.{◌≡◌, ◌≢◌, ◌⊎◌, ◌≤◌, ◌↔◌, ℕ, List, [], Option, Some, map, string_bytes};
 ghost use Rattle.eq_ports.specs.Causes.{Rose};
-ghost use Rattle.ei_program.specs.Words.{IsCommandLine};
+ghost use Rattle.command_line.specs.declared.task.Task.{Task as AskedTask};
+ghost use Rattle.command_line.specs.Asked.{Asks, IsCommandLine};
 ghost use Rattle.ei_program.specs.Definitions.{definitions_of};
-ghost use Rattle.ei_program.specs.Loading.{IsReady};
 ghost use Rattle.ei_program.specs.Outcomes.{CanBeTold};
-ghost use Rattle.ei_program.specs.Answering.{IsWriteOutcome};
-ghost use Rattle.ei_program.specs.Run.{InputLeft, IsChecked, Leaves, LeavesOn};
-ghost use Rattle.ei_program.specs.Cutting.{IsCut};
+ghost use Rattle.ei_program.specs.Checking.{IsChecked};
+ghost use Rattle.ei_program.specs.Run.{settings_of, Leaves, LeavesOn};
 
-use crate::answer::answer_text;
-use crate::loading::{Loaded, TEXT_BYTES, load};
+use crate::answer::{answer_file, answer_input};
+use crate::loading::load;
 use crate::outcome::Outcome;
+use crate::ready::Ready;
+use crate::settings::Settings;
 use crate::stop::Stop;
-use crate::taking::{Ending, take_up_to};
-use crate::words::{Mode, read_words};
+use command_line::{Mode, Task, read_words};
 use eq_ports::{Files, Sink, Source, write_whole};
 use std::alloc::Global;
-use term_lex::{Fault, FaultKind};
 
-/// The outcome of a run whose input could not be read to its end, by that of the bytes before.
-fn cut(outcome: Outcome) -> Outcome
-    ensures { IsCut outcome result }
-{
-    match outcome {
-        Outcome::Stopped(stop) => Outcome::Stopped(stop),
-        _ => Outcome::Stopped(Stop::ReadFailed),
-    }
-}
+/// The most bytes of an input: 2^40.
+const INPUT_BYTES: u64 = 1_099_511_627_776;
 
-/// Answers the term of the input, if it holds one.
-fn answer_input<I: Source, O: Sink>(
-    alloc: Global,
-    loaded: &mut Loaded,
-    budget: u64,
-    input: &mut I,
-    output: &mut O,
-) -> Outcome
-    requires { IsReady loaded.old }
-    ensures left { (bytes : List ℕ) → I.left input.old ≡ Some bytes
-        → LeavesOn (InputLeft budget (definitions_of loaded.old) bytes (I.left input.new) result)
-        (O.taken output.old) (O.taken output.new) }
-    ensures input_later { I.faults input.old ≤ I.faults input.new }
-    ensures output_later { O.faults output.old ≤ O.faults output.new }
-    ensures read { result ≡ Outcome.Stopped Stop.ReadFailed → Rose (I.faults input.old) (I.faults input.new) }
-    ensures write { result ≡ Outcome.Stopped Stop.WriteFailed
-        → Rose (O.faults output.old) (O.faults output.new) }
-    ensures words { result ≢ Outcome.BadWords }
-    ensures told { CanBeTold result }
-    ensures read_steady { result ≢ Outcome.Stopped Stop.ReadFailed → result ≢ Outcome.Stopped Stop.WriteFailed
-        → result ≢ Outcome.Stopped Stop.NoMemory → I.faults input.new ≡ I.faults input.old }
-    ensures write_steady { result ≢ Outcome.Stopped Stop.WriteFailed
-        → O.faults output.new ≡ O.faults output.old }
+/// How terms are read and answered for a task.
+fn settings_of(task: Task) -> Settings
+    ensures { result ≡ settings_of task }
 {
-    let taken = match take_up_to(alloc, input, TEXT_BYTES) {
-        Ok(taken) => taken,
-        Err(_) => return Outcome::Stopped(Stop::NoMemory),
-    };
-    match taken.ending {
-        Ending::Whole => answer_text(alloc, loaded, budget, &taken.bytes, output),
-        Ending::Long => Outcome::TermRefused(Fault {
-            kind: FaultKind::TermLong,
-            byte: 0,
-        }),
-        Ending::Failed => cut(answer_text(alloc, loaded, budget, &taken.bytes, output)),
+    Settings {
+        syntax: task.syntax,
+        budget: task.budget,
+        most: task.most,
+        input_bytes: INPUT_BYTES,
     }
 }
 
 /// Tells on the output that a file is accepted, and how many equations it gives.
-fn tell_accepted<O: Sink>(alloc: Global, loaded: &Loaded, output: &mut O) -> Outcome
-    ensures left { LeavesOn (λ written. IsChecked (definitions_of loaded.now) result written)
+fn tell_accepted<O: Sink>(alloc: Global, ready: &Ready, output: &mut O) -> Outcome
+    ensures left { LeavesOn (IsChecked (definitions_of ready.now) result)
         (O.taken output.old) (O.taken output.new) }
-    ensures count { IsWriteOutcome (O.faults output.old) (O.faults output.new) result }
+    ensures no_read { result ≢ Outcome.Stopped Stop.ReadFailed }
+    ensures output_later { O.faults output.old ≤ O.faults output.new }
+    ensures write { result ≡ Outcome.Stopped Stop.WriteFailed
+        → Rose (O.faults output.old) (O.faults output.new) }
+    ensures output_steady { result ≢ Outcome.Stopped Stop.WriteFailed
+        → O.faults output.new ≡ O.faults output.old }
+    ensures words { result ≢ Outcome.BadWords }
     ensures told { CanBeTold result }
 {
-    let count = loaded.regular.rules().len();
+    let count = ready.regular.rules().len();
     let Ok(line) = format!(in alloc; "accepted {count}\n") else {
         return Outcome::Stopped(Stop::NoMemory);
     };
@@ -84,7 +56,7 @@ fn tell_accepted<O: Sink>(alloc: Global, loaded: &Loaded, output: &mut O) -> Out
     }
 }
 
-/// Reads the words and the definitions file, and answers the input's term, or tells that the file is accepted.
+/// Reads the words and the definitions file, and does what the mode says.
 pub fn run<F: Files, I: Source, O: Sink>(
     alloc: Global,
     words: &[String],
@@ -96,8 +68,11 @@ pub fn run<F: Files, I: Source, O: Sink>(
         → I.left input.old ≡ Some bytes
         → LeavesOn
         (Leaves (record { words = map string_bytes words.now; named = named; input = bytes })
-        (I.left input.new) result)
+        (F.rest files.new) (I.left input.new) result)
         (O.taken output.old) (O.taken output.new) }
+    ensures whole { (named : List ℕ → Option (List ℕ)) (task : AskedTask) (file terms : List ℕ)
+        → F.named files.old ≡ Some named → Asks (map string_bytes words.now) task file (Some terms)
+        → (result ≡ Outcome.Answered) ⊎ (result ≡ Outcome.Questions) → F.rest files.new ≡ Some [] }
     ensures words { (result ≡ Outcome.BadWords) ↔ (¬ IsCommandLine (map string_bytes words.now)) }
     ensures told { CanBeTold result }
     ensures files_later { F.faults files.old ≤ F.faults files.new }
@@ -107,21 +82,27 @@ pub fn run<F: Files, I: Source, O: Sink>(
         ⊎ Rose (I.faults input.old) (I.faults input.new) }
     ensures write { result ≡ Outcome.Stopped Stop.WriteFailed
         → Rose (O.faults output.old) (O.faults output.new) }
-    ensures files_steady { result ≢ Outcome.Stopped Stop.ReadFailed
-        → F.faults files.new ≡ F.faults files.old }
+    ensures files_steady { result ≢ Outcome.Stopped Stop.ReadFailed → result ≢ Outcome.Stopped Stop.WriteFailed
+        → result ≢ Outcome.Stopped Stop.NoMemory → F.faults files.new ≡ F.faults files.old }
     ensures input_steady { result ≢ Outcome.Stopped Stop.ReadFailed
         → result ≢ Outcome.Stopped Stop.WriteFailed → result ≢ Outcome.Stopped Stop.NoMemory
         → I.faults input.new ≡ I.faults input.old }
     ensures output_steady { result ≢ Outcome.Stopped Stop.WriteFailed
         → O.faults output.new ≡ O.faults output.old }
 {
-    let Some(command) = read_words(words) else {
+    let Some(asked) = read_words(words) else {
         return Outcome::BadWords;
     };
-    match load(alloc, command.task.syntax, files, command.file) {
-        Ok(mut loaded) => match command.task.mode {
-            Mode::Answer(budget) => answer_input(alloc, &mut loaded, budget, input, output),
-            Mode::Check => tell_accepted(alloc, &loaded, output),
+    match load(alloc, asked.task.syntax, files, asked.file) {
+        Ok(mut ready) => match asked.task.mode {
+            Mode::Answer => {
+                let settings = settings_of(asked.task);
+                match asked.terms {
+                    Some(name) => answer_file(alloc, &mut ready, &settings, files, name, output),
+                    None => answer_input(alloc, &mut ready, &settings, input, output),
+                }
+            }
+            Mode::Check => tell_accepted(alloc, &ready, output),
         },
         Err(outcome) => outcome,
     }

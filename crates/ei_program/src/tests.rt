@@ -1,148 +1,17 @@
 // The worked rows, over the ports in memory: the status, and both outputs byte for byte.
+mod limits;
+mod samples;
+
 use crate::top_call::ei;
 use eq_ports::{MemoryFiles, MemorySink, MemorySource};
+use samples::{
+    APART_CLASSES, APPEND, ARITHMETIC, BROKEN, CLASSES, COMBINATORS, DEMANDED_ARGUMENT, EITHER,
+    FACTORIAL, FREE_VARIABLES, INNER_OVERLAP, LAZY, MANY_CHOICES, PEANO, SAME_RIGHT_SIDES,
+    SHARED_CLASSES, SHARING, TEXT, TWICE,
+};
 use std::alloc::{AllocError, Global};
 use std::process::Abort;
 use std::test::Fail;
-
-const PEANO: &str = "Symbols z: 0; s: 1; plus: 2.
-For all x, y:
-  plus(z, x) = x;
-  plus(s(x), y) = s(plus(x, y)).
-";
-
-const LAZY: &str = "Symbols a: 0; cons: 2; car: 1; loop: 0.
-For all x, y:
-  car(cons(x, y)) = x;
-  loop = loop.
-";
-
-const DEMANDED_ARGUMENT: &str = "Symbols a: 0; b: 0; c: 0; f: 2; loop: 0.
-For all x:
-  f(x, a) = c;
-  b = a;
-  loop = loop.
-";
-
-const SHARING: &str = "Symbols d: 1; p: 2; w: 0; z: 0.
-For all x:
-  d(x) = p(x, x);
-  w = z.
-";
-
-const COMBINATORS: &str = "Symbols AP: 2; S: 0; K: 0; q: 0.
-For all x, y, z:
-  AP(AP(AP(S, x), y), z) = AP(AP(x, z), AP(y, z));
-  AP(AP(K, x), y) = x.
-";
-
-const INNER_OVERLAP: &str = "Symbols a: 0; b: 0; c: 0; f: 2; g: 2.
-For all x, y:
-  f(g(x, a), y) = x;
-  g(b, c) = b.
-";
-
-const BROKEN: &str = "Symbols if: 3; g: 2; first: 1; pred: 1; succ: 1; h: 1; k: 1; c: 0;
-  include integer_numerals.
-For all x, y:
-  if(x, y, y) = y;
-  g(0, x) = 0;
-  g(x, 1) = 1;
-  first(pred(x)) = c;
-  pred(succ(x)) = x;
-  h(x) = k(y).
-";
-
-const FREE_VARIABLES: &str = "Symbols c: 0; p: 52.
-For all x:
-  c = p(
-    x, x, x, x, x, x, x, x, x, x, x, x, x,
-    x, x, x, x, x, x, x, x, x, x, x, x, x,
-    x, x, x, x, x, x, x, x, x, x, x, x, x,
-    x, x, x, x, x, x, x, x, x, x, x, x, x).
-";
-
-const EITHER: &str = "Symbols a: 0; b: 0; s: 1; f: 1; g: 1.
-For all x, y:
-  f(x) = g(x) where x is either a or s(y) end or end where.
-";
-
-const APPEND: &str = "Symbols cons: 2; nil: 0; append: 2; include integer_numerals.
-For all x, y, z:
-  append[(); y] = y;
-  append[(x . y); z] = (x . append[y; z]).
-";
-
-const ARITHMETIC: &str = "Symbols add: 2; divide: 2; modulo: 2; fst: 2;
-  include integer_numerals.
-For all x, y:
-  fst(x, y) = x;
-  include addint, divint, modint.
-";
-
-const TEXT: &str = "Symbols concat: 2; length: 1; equ: 2;
-  include strings, integer_numerals, truth_values, atomic_symbols.
-For all:
-  include concatstr, lengthstr, equint, equatom, equstr.
-";
-
-const FACTORIAL: &str = "Symbols fact: 1; if: 3; equ: 2; multiply: 2; subtract: 2;
-  include integer_numerals, truth_values.
-For all x, y:
-  if(true, x, y) = x;
-  if(false, x, y) = y;
-  fact(x) = if(equ(x, 0), 1, multiply(x, fact(subtract(x, 1))));
-  include equint, multint, subint.
-";
-
-const CLASSES: &str = "Symbols h: 1; include integer_numerals.
-For all n:
-  h(n) = 1 where n is in integer_numerals end where;
-  h(n) = 1 where n is in integer_numerals end where;
-  h(0) = 1.
-";
-
-const SHARED_CLASSES: &str = "Symbols f: 1; a: 0; b: 0; c: 0.
-Classes low: a, b; high: b, c.
-For all x:
-  f(x) = a where x is in low end where;
-  f(x) = c where x is in high end where.
-";
-
-const APART_CLASSES: &str = "Symbols f: 1; a: 0; b: 0; c: 0.
-Classes low: a, b; high: c.
-For all x:
-  f(x) = a where x is in low end where;
-  f(x) = c where x is in high end where.
-";
-
-const SAME_RIGHT_SIDES: &str = "Symbols f: 1; a: 0; b: 0; c: 0.
-Classes low: a, b; high: b, c.
-For all x:
-  f(x) = x where x is in low end where;
-  f(x) = x where x is in high end where.
-";
-
-const MANY_CHOICES: &str = "Symbols a: 0; b: 0; f: 13.
-For all c, d, e, g, h, i, j, k, l, m, n, o, p:
-  f(c, d, e, g, h, i, j, k, l, m, n, o, p) = a where
-    c is either a or b end or,
-    d is either a or b end or,
-    e is either a or b end or,
-    g is either a or b end or,
-    h is either a or b end or,
-    i is either a or b end or,
-    j is either a or b end or,
-    k is either a or b end or,
-    l is either a or b end or,
-    m is either a or b end or,
-    n is either a or b end or,
-    o is either a or b end or,
-    p is either a or b end or
-  end where.
-";
-
-const TWICE: &str = "Symbols a: 0; a: 1. For all: a = a.";
 
 /// A port of a run.
 #[derive(Clone, Copy, PartialEq, Eq)]
@@ -153,11 +22,12 @@ enum Port {
     Errors,
 }
 
-/// What a run is given, the port whose call of the number fails (0 for none), and what comes of it.
+/// What a run is given, with a file of definitions under the names `E` and `--check` and one of terms under `T`; the port whose call of the number fails (0 for none), and what comes of it.
 #[derive(Clone, Copy)]
 struct Row<'a> {
     words: &'a [&'a str],
     file: &'a str,
+    terms: &'a str,
     input: &'a str,
     fails: (Port, u64),
     status: u8,
@@ -169,6 +39,7 @@ struct Row<'a> {
 const ADDITION: Row<'static> = Row {
     words: &["E"],
     file: PEANO,
+    terms: "",
     input: "plus(s(s(z)), s(z)).\n",
     fails: (Port::Files, 0),
     status: 0,
@@ -187,10 +58,17 @@ impl Row<'_> {
     }
 }
 
-fn files(alloc: Global, file: &str, fails: u64) -> Result<MemoryFiles, AllocError> {
-    let name = String::from_str(alloc, "E")?;
-    let bytes = file.as_bytes().to_vec(alloc)?;
-    let list = vec![in alloc; (name, bytes)]?;
+fn named(alloc: Global, name: &str, text: &str) -> Result<(String, Vec<u8>), AllocError> {
+    let name = String::from_str(alloc, name)?;
+    let bytes = text.as_bytes().to_vec(alloc)?;
+    Ok((name, bytes))
+}
+
+fn files(alloc: Global, file: &str, terms: &str, fails: u64) -> Result<MemoryFiles, AllocError> {
+    let mut list = Vec::new(alloc);
+    list.push(named(alloc, "E", file)?)?;
+    list.push(named(alloc, "T", terms)?)?;
+    list.push(named(alloc, "--check", file)?)?;
     Ok(MemoryFiles::new(list, 4096, vec![in alloc; fails]?))
 }
 
@@ -213,7 +91,7 @@ fn words(alloc: Global, list: &[&str]) -> Result<Vec<String>, AllocError> {
 }
 
 fn expect(rt: &impl Abort, alloc: Global, row: &Row<'_>) -> Result<(), AllocError> {
-    let mut files = files(alloc, row.file, row.failing(Port::Files))?;
+    let mut files = files(alloc, row.file, row.terms, row.failing(Port::Files))?;
     let mut input = source(alloc, row.input, row.failing(Port::Input))?;
     let mut output = sink(alloc, row.failing(Port::Output))?;
     let mut errors = sink(alloc, row.failing(Port::Errors))?;
@@ -257,10 +135,14 @@ fn answers(rt: HostRuntime) -> Result<(), Fail> {
         (PEANO, "", 0, ""),
         (PEANO, "% nothing", 0, ""),
         (PEANO, " z % nothing\n. % more", 0, "z\n"),
+        (
+            PEANO,
+            "% one. z.\nz.s(z) .% two\n s(s(z)).",
+            0,
+            "z\ns(z)\ns(s(z))\n",
+        ),
         (LAZY, "car(cons(a, loop)).", 0, "a\n"),
-        (LAZY, "loop.", 3, "? spent 1000000\n"),
         (DEMANDED_ARGUMENT, "f(loop, b).", 0, "c\n"),
-        (DEMANDED_ARGUMENT, "f(a, loop).", 3, "? spent 1000000\n"),
         (
             SHARING,
             "d(d(d(w))).",
@@ -269,11 +151,8 @@ fn answers(rt: HostRuntime) -> Result<(), Fail> {
         ),
         (COMBINATORS, "AP(AP(AP(S, K), K), q).", 0, "q\n"),
         ("Symbols a: 0. For all: .", "a.", 0, "a\n"),
-        (EITHER, "f(s(a)).", 0, "g(s(a))\n"),
-        (EITHER, "f(b).", 0, "f(b)\n"),
-        (APART_CLASSES, "f(b).", 0, "a\n"),
-        (APART_CLASSES, "f(c).", 0, "c\n"),
-        (APART_CLASSES, "f(f(a)).", 0, "a\n"),
+        (EITHER, "f(s(a)). f(b).", 0, "g(s(a))\nf(b)\n"),
+        (APART_CLASSES, "f(b). f(c). f(f(a)).", 0, "a\nc\na\n"),
         (SAME_RIGHT_SIDES, "f(b).", 0, "b\n"),
     ] {
         let row = Row {
@@ -285,6 +164,19 @@ fn answers(rt: HostRuntime) -> Result<(), Fail> {
         };
         expect(&rt, rt.alloc(), &row)?;
     }
+    Ok(())
+}
+
+#[test]
+fn default_budget(rt: HostRuntime) -> Result<(), Fail> {
+    let row = Row {
+        file: LAZY,
+        input: "loop.",
+        status: 3,
+        output: "? spent 1000000\n",
+        ..ADDITION
+    };
+    expect(&rt, rt.alloc(), &row)?;
     Ok(())
 }
 
@@ -303,27 +195,30 @@ fn operations(rt: HostRuntime) -> Result<(), Fail> {
             0,
             "1\n",
         ),
-        (ARITHMETIC, "divide(5, 0).", 0, "divide(5, 0)\n"),
-        (ARITHMETIC, "modulo(-7, 2).", 0, "1\n"),
-        (ARITHMETIC, "divide(-7, 2).", 0, "-4\n"),
+        (
+            ARITHMETIC,
+            "divide(5, 0). modulo(-7, 2). divide(-7, 2).",
+            0,
+            "divide(5, 0)\n1\n-4\n",
+        ),
         (
             ARITHMETIC,
             "divide(-170141183460469231731687303715884105728, -1).",
             3,
             "? past divide(-170141183460469231731687303715884105728, -1)\n",
         ),
-        (TEXT, "concat(\"ab\", \"c\").", 0, "\"abc\"\n"),
-        (TEXT, "length(concat(\"ab\", \"\")).", 0, "2\n"),
-        (TEXT, "equ(\"a\", \"a\").", 0, "true\n"),
-        (TEXT, "equ(u, v).", 0, "false\n"),
-        (TEXT, "equ(u, 1).", 0, "equ(u, 1)\n"),
-        (TEXT, "equ(true, true).", 0, "equ(true, true)\n"),
-        (FACTORIAL, "fact(20).", 0, "2432902008176640000\n"),
+        (
+            TEXT,
+            "concat(\"ab\", \"c\"). length(concat(\"ab\", \"\")). equ(\"a\", \"a\"). \
+             equ(u, v). equ(u, 1). equ(true, true).",
+            0,
+            "\"abc\"\n2\ntrue\nfalse\nequ(u, 1)\nequ(true, true)\n",
+        ),
         (
             FACTORIAL,
-            "fact(34).",
+            "fact(20). fact(34).",
             3,
-            "? past multiply(34, 8683317618811886495518194401280000000)\n",
+            "2432902008176640000\n? past multiply(34, 8683317618811886495518194401280000000)\n",
         ),
     ] {
         let row = Row {
@@ -340,24 +235,35 @@ fn operations(rt: HostRuntime) -> Result<(), Fail> {
 
 #[test]
 fn refused_terms(rt: HostRuntime) -> Result<(), Fail> {
-    for (input, errors) in [
-        ("plus(z, z)).", "ei: term refused: Expected at byte 10\n"),
-        ("plus(z, #).", "ei: term refused: BadByte at byte 8\n"),
-        ("plus(z", "ei: term refused: Unended at byte 6\n"),
-        ("plus(z, z)", "ei: term refused: Unended at byte 10\n"),
-        ("plus(z).", "ei: term refused: WrongArity at byte 0\n"),
-        ("q.", "ei: term refused: Unknown at byte 0\n"),
-        ("z. z.", "ei: term refused: NotYet at byte 3\n"),
+    for (input, output, errors) in [
+        (
+            "plus(z, z)).",
+            "",
+            "ei: term refused: Expected at byte 10\n",
+        ),
+        ("plus(z, #).", "", "ei: term refused: BadByte at byte 8\n"),
+        ("plus(z", "", "ei: term refused: Unended at byte 6\n"),
+        ("plus(z, z)", "", "ei: term refused: Unended at byte 10\n"),
+        ("plus(z).", "", "ei: term refused: WrongArity at byte 0\n"),
+        ("q.", "", "ei: term refused: Unknown at byte 0\n"),
+        ("z. q. z.", "z\n", "ei: term refused: Unknown at byte 3\n"),
+        ("z. z", "z\n", "ei: term refused: Unended at byte 4\n"),
         (
             "plus(z, z). plus(z",
-            "ei: term refused: NotYet at byte 12\n",
+            "z\n",
+            "ei: term refused: Unended at byte 18\n",
         ),
-        ("z. \"ab", "ei: term refused: NotYet at byte 3\n"),
+        ("z. \"ab", "z\n", "ei: term refused: OpenString at byte 3\n"),
+        (
+            "z. s(z). plus(z,, z). z.",
+            "z\ns(z)\n",
+            "ei: term refused: Expected at byte 16\n",
+        ),
     ] {
         let row = Row {
             input,
             status: 6,
-            output: "",
+            output,
             errors,
             ..ADDITION
         };
@@ -407,9 +313,20 @@ fn refused_files(rt: HostRuntime) -> Result<(), Fail> {
 fn lists(rt: HostRuntime) -> Result<(), Fail> {
     let words = ["--syntax=lisp.m", "E"];
     for (file, input, status, output, errors) in [
-        (APPEND, "append[(1 2); (3 . 4)].", 0, "(1 2 3 . 4)\n", ""),
-        (APPEND, "cons[1; nil].", 0, "(1)\n", ""),
-        (APPEND, "append[(); ()].", 0, "()\n", ""),
+        (
+            APPEND,
+            "append[(1 2); (3 . 4)]. cons[1; nil]. append[(); ()].",
+            0,
+            "(1 2 3 . 4)\n(1)\n()\n",
+            "",
+        ),
+        (
+            APPEND,
+            "(1 2 3 4 5 . 6) . (1 . (2 . 3)) .",
+            0,
+            "(1 2 3 4 5 . 6)\n(1 2 . 3)\n",
+            "",
+        ),
         (
             APPEND,
             "( . 1).",
@@ -419,10 +336,10 @@ fn lists(rt: HostRuntime) -> Result<(), Fail> {
         ),
         (
             "Symbols a: 0. For all: .",
-            "().",
+            "a. ().",
             6,
-            "",
-            "ei: term refused: ListNeedsCons at byte 0\n",
+            "a\n",
+            "ei: term refused: ListNeedsCons at byte 3\n",
         ),
         (
             "Symbols f: 1. For all x: f[(x . x . x)] = x.",
@@ -571,11 +488,41 @@ fn budgets(rt: HostRuntime) -> Result<(), Fail> {
         (
             "--replacements=3",
             DEMANDED_ARGUMENT,
-            "loop.",
+            "loop. f(loop, b).",
             3,
-            "? spent 3\n",
+            "? spent 3\nc\n",
+        ),
+        (
+            "--replacements=0",
+            DEMANDED_ARGUMENT,
+            "a. b.",
+            3,
+            "a\n? spent 0\n",
+        ),
+        ("--most=7", SHARING, "d(d(d(w))).", 3, "? large\n"),
+        ("--most=14", SHARING, "d(d(d(w))).", 3, "? large\n"),
+        (
+            "--most=15",
+            SHARING,
+            "d(d(d(w))).",
+            0,
+            "p(p(p(z, z), p(z, z)), p(p(z, z), p(z, z)))\n",
+        ),
+        (
+            "--most=1",
+            ARITHMETIC,
+            "add(170141183460469231731687303715884105727, 1). divide(5, 0). 1.",
+            3,
+            "? past add(170141183460469231731687303715884105727, 1)\n? large\n1\n",
         ),
         ("--replacements=0", DEMANDED_ARGUMENT, "a.", 0, "a\n"),
+        (
+            "--replacements=1000",
+            DEMANDED_ARGUMENT,
+            "f(a, loop).",
+            3,
+            "? spent 1000\n",
+        ),
         (
             "--replacements=0",
             DEMANDED_ARGUMENT,
@@ -615,35 +562,51 @@ fn budgets(rt: HostRuntime) -> Result<(), Fail> {
 #[test]
 fn command_lines(rt: HostRuntime) -> Result<(), Fail> {
     let bad = "ei: bad command line\n";
+    let line = ADDITION.output;
     for (words, status, output, errors) in [
         (["--check", "E"].as_slice(), 0, "accepted 2\n", ""),
+        (["E", "--check"].as_slice(), 0, "accepted 2\n", ""),
         (
             ["--syntax=standmath", "--check", "E"].as_slice(),
             0,
             "accepted 2\n",
             "",
         ),
+        (["E", "--replacements", "5"].as_slice(), 0, line, ""),
+        (["--", "--check"].as_slice(), 0, line, ""),
+        (["--most", "4", "--", "E"].as_slice(), 0, line, ""),
+        (["--most", "3", "--", "E"].as_slice(), 3, "? large\n", ""),
+        (["E", "T"].as_slice(), 0, "s(s(z))\nz\n", ""),
+        (["E", "none"].as_slice(), 7, "", "ei: read failed\n"),
+        (["-"].as_slice(), 7, "", "ei: read failed\n"),
         (["--syntax=standmath"].as_slice(), 2, "", bad),
         (["--syntax=lispm", "E"].as_slice(), 2, "", bad),
-        (["--check", "--syntax=lisp.m", "E"].as_slice(), 2, "", bad),
         (["--check", "none"].as_slice(), 7, "", "ei: read failed\n"),
         (["none"].as_slice(), 7, "", "ei: read failed\n"),
         ([].as_slice(), 2, "", bad),
         (["-E"].as_slice(), 2, "", bad),
         (["--check"].as_slice(), 2, "", bad),
-        (["E", "E"].as_slice(), 2, "", bad),
-        (["E", "--check"].as_slice(), 2, "", bad),
+        (["E", "T", "T"].as_slice(), 2, "", bad),
         (["--check", "-E"].as_slice(), 2, "", bad),
         (["--replacements=1"].as_slice(), 2, "", bad),
         (["--replacements=", "E"].as_slice(), 2, "", bad),
-        (["--replacements=+1", "E"].as_slice(), 2, "", bad),
+        (["--replacements", "+1", "E"].as_slice(), 2, "", bad),
         (["--replacements=1000000000001", "E"].as_slice(), 2, "", bad),
-        (["--replacements=1", "--check", "E"].as_slice(), 2, "", bad),
+        (
+            ["--replacements=5", "--replacements=5", "E"].as_slice(),
+            2,
+            "",
+            bad,
+        ),
+        (["--most", "0", "E"].as_slice(), 2, "", bad),
+        (["--most=4294967297", "E"].as_slice(), 2, "", bad),
+        (["--most=", "E"].as_slice(), 2, "", bad),
         (["--check", "E", "T"].as_slice(), 2, "", bad),
         (["--check", "--check", "E"].as_slice(), 2, "", bad),
     ] {
         let row = Row {
             words,
+            terms: "plus(s(z), s(z)). z.",
             status,
             output,
             errors,
@@ -704,6 +667,21 @@ fn failing_reads(rt: HostRuntime) -> Result<(), Fail> {
         ((Port::Input, 4), term, 0, line, ""),
         ((Port::Input, 2), "z.", 7, "z\n", failed),
         ((Port::Input, 2), "q.", 7, "", failed),
+        (
+            (Port::Input, 2),
+            "plus(z, z). plus(z, z).",
+            7,
+            "z\n",
+            failed,
+        ),
+        ((Port::Input, 3), "plus(z, z). pl", 7, "z\n", failed),
+        (
+            (Port::Input, 3),
+            "z. z. s(z). z. q. s(z).",
+            7,
+            "z\nz\ns(z)\nz\n",
+            failed,
+        ),
     ] {
         let row = Row {
             input,
@@ -756,29 +734,34 @@ fn failing_writes(rt: HostRuntime) -> Result<(), Fail> {
 }
 
 #[test]
-fn long_inputs(rt: HostRuntime) -> Result<(), Fail> {
-    let alloc = rt.alloc();
-    for (bytes, status, told) in [
-        (16_777_216, 0, ""),
-        (16_777_217, 6, "ei: term refused: TermLong at byte 0\n"),
+fn named_terms(rt: HostRuntime) -> Result<(), Fail> {
+    let failed = "ei: read failed\n";
+    for (fails, terms, status, output, errors) in [
+        ((Port::Files, 0), "z. s(z).", 0, "z\ns(z)\n", ""),
+        ((Port::Files, 0), "", 0, "", ""),
+        (
+            (Port::Files, 0),
+            "z. q.",
+            6,
+            "z\n",
+            "ei: term refused: Unknown at byte 3\n",
+        ),
+        ((Port::Files, 4), "z.", 7, "", failed),
+        ((Port::Files, 5), "z.", 7, "", failed),
+        ((Port::Files, 6), "z.", 7, "z\n", failed),
+        ((Port::Files, 7), "z.", 0, "z\n", ""),
+        ((Port::Input, 1), "z.", 0, "z\n", ""),
     ] {
-        let mut files = files(alloc, PEANO, 0)?;
-        let text = vec![in alloc; b' '; bytes]?;
-        let mut input = MemorySource::new(text, 65_536, Vec::new(alloc));
-        let mut output = sink(alloc, 0)?;
-        let mut errors = sink(alloc, 0)?;
-        let words = words(alloc, &["E"])?;
-        let ended = ei(
-            alloc,
-            words,
-            &mut files,
-            &mut input,
-            &mut output,
-            &mut errors,
-        );
-        assert_eq!(rt; ended.number(), status, "at {bytes} bytes");
-        assert_eq!(rt; output.written(), b"".as_slice(), "at {bytes} bytes");
-        assert_eq!(rt; errors.written(), told.as_bytes(), "at {bytes} bytes");
+        let row = Row {
+            words: &["E", "T"],
+            terms,
+            fails,
+            status,
+            output,
+            errors,
+            ..ADDITION
+        };
+        expect(&rt, rt.alloc(), &row)?;
     }
     Ok(())
 }

@@ -40,10 +40,8 @@ returns-clause-ok c =
       read = definitions_read d;
       says = c.in_ok-definitions.ensures.answer;
       expansion = c.in_ok-rules.ensures.answer;
-      notation = refl;
       names = refl;
       classes = ap (read_classes d.symbols) c.in_ok-rules.ensures.classes;
-      variables = refl;
     }
 
 pub returns-clause-usable : goal.returns-clause-usable

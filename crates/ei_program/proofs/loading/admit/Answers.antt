@@ -9,12 +9,12 @@ use Rattle.ei_program.proofs.loading.admit.Goals as goal
 pub admit-requires : goal.admit-requires
 admit-requires c =
     let e = c.args.equations in
-    let defines = c.requires.defined.1 in
-    file_well_formed (notation_of e.syntax) (lawful_of e.syntax) c.requires.defined.0 defines.read defines.says e.symbols e.rules defines.expansion defines.classes
+    let (syntax, file, defines) = c.requires.defined in
+    file_well_formed (notation_of syntax) (lawful_of syntax) file defines.read defines.says e.symbols e.rules defines.expansion defines.classes
 
 pub returns-in-Ok-clause-admitted : goal.returns-in-Ok-clause-admitted
 returns-in-Ok-clause-admitted c =
-    admitted c.args.equations c.in-Ok.regular c.requires.defined.0 c.requires.defined.1 c.requires.usable c.has_one_number_each.ensures.distinct c.in-Ok.ensures.ok c.in-Ok.ensures.regular
+    admitted c.args.equations c.in-Ok.regular c.requires.defined.0 c.requires.defined.1 c.requires.defined.2 c.requires.usable c.has_one_number_each.ensures.distinct c.in-Ok.ensures.ok c.in-Ok.ensures.regular
 
 pub returns-in-Err-Broken-clause-admitted : goal.returns-in-Err-Broken-clause-admitted
 returns-in-Err-Broken-clause-admitted c =

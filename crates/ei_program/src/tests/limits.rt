@@ -1,0 +1,111 @@
+// Limits on the bytes of an input and of a term.
+use super::samples::PEANO;
+use super::{files, sink, source};
+use crate::loading::load;
+use crate::settings::Settings;
+use crate::top_call::answer_terms;
+use eq_ports::MemorySource;
+use std::alloc::{AllocError, Global};
+use std::process::Abort;
+use std::test::Fail;
+use term_lex::Syntax;
+
+/// Expects this of the answering of terms by Peano's equations.
+fn expect_terms(
+    rt: &impl Abort,
+    alloc: Global,
+    settings: &Settings,
+    input: &mut MemorySource,
+    status: u8,
+    output: &str,
+    errors: &str,
+) -> Result<(), AllocError> {
+    let mut files = files(alloc, PEANO, "", 0)?;
+    let Ok(mut ready) = load(alloc, Syntax::Standmath, &mut files, "E") else {
+        assert!(rt; false, "the equations are not accepted");
+        return Ok(());
+    };
+    let mut out = sink(alloc, 0)?;
+    let mut err = sink(alloc, 0)?;
+    let ended = answer_terms(alloc, &mut ready, settings, input, &mut out, &mut err);
+    assert_eq!(rt; ended.number(), status);
+    assert_eq!(rt; out.written(), output.as_bytes());
+    assert_eq!(rt; err.written(), errors.as_bytes());
+    Ok(())
+}
+
+#[test]
+fn limited_inputs(rt: HostRuntime) -> Result<(), Fail> {
+    let alloc = rt.alloc();
+    let long = "ei: input too long\n";
+    for (input_bytes, input, status, output, errors) in [
+        (12, "plus(z, z). z.", 9, "z\n", long),
+        (13, "plus(z, z). z.", 9, "z\n", long),
+        (14, "plus(z, z). z.", 0, "z\nz\n", ""),
+        (0, "", 0, "", ""),
+        (0, " ", 9, "", long),
+        (3, "z.% and so on", 9, "z\n", long),
+        (
+            8,
+            "z. q. z. z.",
+            6,
+            "z\n",
+            "ei: term refused: Unknown at byte 3\n",
+        ),
+        (5, "z. \"ab", 9, "z\n", long),
+    ] {
+        let settings = Settings {
+            syntax: Syntax::Standmath,
+            budget: 1_000_000,
+            most: 1_000_000,
+            input_bytes,
+        };
+        let mut input = source(alloc, input, 0)?;
+        expect_terms(&rt, alloc, &settings, &mut input, status, output, errors)?;
+    }
+    Ok(())
+}
+
+/// Expects this of the terms of a text: the front, so many blanks, and the back.
+fn expect_wide(
+    rt: &impl Abort,
+    alloc: Global,
+    (front, blanks, back): (&str, usize, &str),
+    status: u8,
+    output: &str,
+    errors: &str,
+) -> Result<(), AllocError> {
+    let settings = Settings {
+        syntax: Syntax::Standmath,
+        budget: 1_000_000,
+        most: 1_000_000,
+        input_bytes: 1_099_511_627_776,
+    };
+    let mut text = front.as_bytes().to_vec(alloc)?;
+    text.extend_from_slice(&vec![in alloc; b' '; blanks]?)?;
+    text.extend_from_slice(back.as_bytes())?;
+    let mut input = MemorySource::new(text, 65_536, Vec::new(alloc));
+    expect_terms(rt, alloc, &settings, &mut input, status, output, errors)
+}
+
+#[test]
+fn long_gaps(rt: HostRuntime) -> Result<(), Fail> {
+    let alloc = rt.alloc();
+    expect_wide(&rt, alloc, ("z. ", 500_000, " z."), 0, "z\nz\n", "")?;
+    expect_wide(&rt, alloc, ("%", 500_000, "\n z."), 0, "z\n", "")?;
+    expect_wide(&rt, alloc, ("z.%", 500_000, " z."), 0, "z\n", "")?;
+    Ok(())
+}
+
+#[test]
+fn longest_term(rt: HostRuntime) -> Result<(), Fail> {
+    expect_wide(&rt, rt.alloc(), ("z. z", 16_777_214, "."), 0, "z\nz\n", "")?;
+    Ok(())
+}
+
+#[test]
+fn term_too_long(rt: HostRuntime) -> Result<(), Fail> {
+    let told = "ei: term refused: TermLong at byte 3\n";
+    expect_wide(&rt, rt.alloc(), ("z. z", 16_777_215, "."), 6, "z\n", told)?;
+    Ok(())
+}

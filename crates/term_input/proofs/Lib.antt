@@ -1,0 +1,10 @@
+pub mod Gaps
+pub mod Inputs
+pub mod Limits
+pub mod Windows
+pub mod Fronts
+pub mod TermReaders
+pub mod Streams
+pub mod StandmathOutlines
+pub mod ListOutlines
+pub mod FaultBytes
