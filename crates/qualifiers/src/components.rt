@@ -1,4 +1,5 @@
-// A guess at the levels of a graph's places: by the components in which edges lead from each place to each other one.
+// A guess at the levels of a graph's places: by the components in which edges lead from each place to each other one, as
+// Tarjan finds them (Depth-first search and linear graph algorithms, 1972).
 use crate::levels::level_of;
 use eq_base::NoMemory;
 use std::alloc::Global;
@@ -11,7 +12,7 @@ const STEPS: usize = 67_108_864;
 struct Walk {
     /// How many places were met.
     met: usize,
-    /// At each place, the how manyth it was that was met, from 1 on; 0 before.
+    /// At each place, its number in the order in which places were met, from 1 on; 0 before.
     order: Vec<usize>,
     /// At each place, the least of these numbers that is known to be in its component.
     least: Vec<usize>,
