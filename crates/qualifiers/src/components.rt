@@ -1,6 +1,6 @@
 // A guess at the levels of a graph's places: by the components in which edges lead from each place to each other one, as
 // Tarjan finds them (Depth-first search and linear graph algorithms, 1972).
-use crate::levels::level_of;
+use crate::levels::number_at;
 use eq_base::NoMemory;
 use std::alloc::Global;
 
@@ -12,15 +12,15 @@ const STEPS: usize = 67_108_864;
 struct Walk {
     /// How many places were met.
     met: usize,
-    /// At each place, its number in the order in which places were met, from 1 on; 0 before.
+    /// At each place, its number in the order in which they were met, from 1 on; 0 before that.
     order: Vec<usize>,
-    /// At each place, the least of these numbers that is known to be in its component.
+    /// At each place, the least of these numbers that is known in its component; the most there is, once it is complete.
     least: Vec<usize>,
     /// The places that were met and whose component is not complete.
     open: Vec<usize>,
     /// How many components are complete.
     complete: usize,
-    /// At each place, how many components were complete before its own.
+    /// At each place, how many components were complete before its own one.
     levels: Vec<usize>,
 }
 
@@ -56,14 +56,14 @@ impl Walk {
 
     /// Takes over the least number of a place that follows.
     fn join(&mut self, place: usize, follower: usize) {
-        let least = level_of(&self.least, place).min(level_of(&self.least, follower));
+        let least = number_at(&self.least, place).min(number_at(&self.least, follower));
         put(&mut self.least, place, least);
     }
 
-    /// Leaves the place, whose edges were all walked along: where it is the first of its component that was met, the
-    /// component is complete.
+    /// Leaves the place, whose edges were all walked along. Where it is the first of its component that was met, the
+    /// component is complete: it and what is open over it.
     fn leave(&mut self, place: usize) {
-        if level_of(&self.least, place) != level_of(&self.order, place) {
+        if number_at(&self.least, place) != number_at(&self.order, place) {
             return;
         }
         while let Some(member) = self.open.pop() {
@@ -89,7 +89,7 @@ impl Walk {
             self.leave(place);
             return Ok(());
         };
-        if level_of(&self.order, *follower) == 0 {
+        if number_at(&self.order, *follower) == 0 {
             way.push((place, edge))?;
             return self.meet(*follower, way);
         }
@@ -105,7 +105,7 @@ impl Walk {
         graph: &[Vec<usize>],
         start: usize,
     ) -> Result<(), NoMemory> {
-        if level_of(&self.order, start) != 0 {
+        if number_at(&self.order, start) != 0 {
             return Ok(());
         }
         let mut way = Vec::new(alloc);

@@ -6,8 +6,8 @@ use crate::components::guessed_levels;
 use eq_base::NoMemory;
 use std::alloc::Global;
 
-/// The level of the place: its number in the list, and 0 past the end.
-pub fn level_of(levels: &[usize], place: usize) -> usize
+/// The number at the place, as its level, and 0 past the end.
+pub fn number_at(levels: &[usize], place: usize) -> usize
     ensures { result ≡ level_at levels.now place }
 {
     match levels.get(place) {
@@ -20,14 +20,16 @@ pub fn level_of(levels: &[usize], place: usize) -> usize
 pub fn are_lower(places: &[usize], levels: &[usize], level: usize) -> bool
     ensures { IsTrue result ↔ All (λ j. level_at levels.now j < level) places.now }
 {
-    places.iter().all(|place| level_of(levels, *place) < level)
+    places.iter().all(|place| number_at(levels, *place) < level)
 }
 
 /// Whether none of the places is on a higher level than that.
 fn are_not_higher(places: &[usize], levels: &[usize], level: usize) -> bool
     ensures { IsTrue result ↔ All (λ j. level_at levels.now j ≤ level) places.now }
 {
-    places.iter().all(|place| level_of(levels, *place) <= level)
+    places
+        .iter()
+        .all(|place| number_at(levels, *place) <= level)
 }
 
 /// Whether the levels do not grow along the graph's edges.
@@ -35,15 +37,14 @@ fn are_falling(graph: &[Vec<usize>], levels: &[usize]) -> bool
     ensures { IsTrue result ↔ AreFalling graph.now levels.now }
 {
     for place in 0..graph.len() {
-        if !are_not_higher(&graph[place], levels, level_of(levels, place)) {
+        if !are_not_higher(&graph[place], levels, number_at(levels, place)) {
             return false;
         }
     }
     true
 }
 
-/// Levels that do not grow along the graph's edges. Where edges lead from one place to another and back, both are on
-/// one level; others are on different levels.
+/// Levels that do not grow along the graph's edges: those that are guessed, if they do not, and else 0 for each place.
 pub fn levels_of(alloc: Global, graph: &[Vec<usize>]) -> Result<Vec<usize>, NoMemory>
     ensures { IfOk result (λ levels. AreFalling graph.now levels.items) }
 {

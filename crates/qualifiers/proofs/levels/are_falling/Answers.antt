@@ -14,9 +14,9 @@ returns-then-not-are_not_higher c = (
       let graph = c.args.graph.now in
       let levels = c.args.levels.now in
       let i = c.loop-place.place in
-      let n = c.level_of.result in
+      let n = c.number_at.result in
       let at = read_at graph i c.index-graph-place.result c.index-graph-place.is (omega arith) in
-      let all = of_followers graph levels (λ j. level_at levels j ≤ n) i c.index-graph-place.result at (λ j h. omega (arith, falling i j h, c.level_of.ensures)) in
+      let all = of_followers graph levels (λ j. level_at levels j ≤ n) i c.index-graph-place.result at (λ j h. omega (arith, falling i j h, c.number_at.ensures)) in
       absurd (false≢true (sym c.if-not-are_not_higher.true ∙ c.are_not_higher.ensures.1 (subst (All (λ (j : ℕ). level_at levels j ≤ n)) (sym c.deref.ensures.value) all))),
 )
 
@@ -25,11 +25,11 @@ loop-place-preserved c =
     let graph = c.args.graph.now in
     let levels = c.args.levels.now in
     let i = c.loop-place.place in
-    let n = c.level_of.result in
+    let n = c.number_at.result in
     let at = read_at graph i c.index-graph-place.result c.index-graph-place.is (omega arith) in
     let all = subst (All (λ (j : ℕ). level_at levels j ≤ n)) c.deref.ensures.value (c.are_not_higher.ensures.0 c.if-not-are_not_higher.false) in
     below_more (λ k. (j : ℕ) → Follows graph k j → level_at levels j ≤ level_at levels k) i c.loop-place.invariant
-    (λ j h. omega (arith, of_follower graph levels (λ j. level_at levels j ≤ n) i c.index-graph-place.result at all j h, c.level_of.ensures))
+    (λ j h. omega (arith, of_follower graph levels (λ j. level_at levels j ≤ n) i c.index-graph-place.result at all j h, c.number_at.ensures))
 
 pub returns : goal.returns
 returns c = (
