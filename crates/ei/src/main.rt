@@ -1,5 +1,9 @@
 //! The program `ei`: the equation interpreter over the files, the input, the output and the errors of its process.
 #![tactic(auto)]
+ghost use Rattle.ei_program.specs.declared.stop.Stop.TheVariants.{NoMemory as NoMemoryLeft};
+ghost use Rattle.ei_program.specs.declared.outcome.Outcome.TheVariants.{Stopped};
+ghost use Rattle.ei_program.specs.Outcomes.{told_of};
+ghost use Rattle.ei_program.specs.Telling.{IsWritten};
 
 use ei_program::{Status, ei};
 use eq_ports::{Sink, StdFiles, StdSink, StdSource, write_whole};
@@ -18,7 +22,9 @@ fn own_words<R: Env + Alloc>(rt: &R) -> io::Result<Vec<String<R::A>, R::A>> {
 }
 
 /// Tells on the errors that there is no memory, for a run that could not begin.
-fn told_no_memory<E: Sink>(errors: &mut E) -> Status {
+fn told_no_memory<E: Sink>(errors: &mut E) -> Status
+    ensures { IsWritten (told_of (Stopped NoMemoryLeft)) (E.taken errors.old) (E.taken errors.new) result }
+{
     match write_whole(errors, b"ei: no memory\n") {
         Ok(()) => Status::NoMemory,
         Err(_) => Status::WriteFailed,
