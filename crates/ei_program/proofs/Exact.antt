@@ -23,7 +23,7 @@ IsTold told old new status = (status ≡ told.status) × Appends old new told.me
 -- a message that could be written was written whole
 written_whole : (told : Told) (old new : Option (List ℕ)) (status : Status) → status ≢ statuses.WriteFailed → IsWritten told old new status → IsTold told old new status
 written_whole told old new status whole (inl is) = is
-written_whole told old new status whole (inr (failed, rest)) = absurd (whole failed)
+written_whole told old new status whole (inr written) = absurd (whole written.0)
 
 -- and is what is told, or memory ran out
 told_whole : (told : Told) (old new : Option (List ℕ)) (status : Status) → status ≢ statuses.WriteFailed → IsToldOn told old new status → (status ≡ statuses.NoMemory) ⊎ IsTold told old new status

@@ -12,6 +12,7 @@ use Rattle.ei_program.specs.declared.outcome.Outcome.TheVariants.{Answered, Ques
 use Rattle.term_lex.specs.declared.syntax.Syntax.{Syntax}
 use Rattle.ei_program.specs.Definitions.{Definitions, Defines, BreaksNone}
 use Rattle.ei_program.specs.Loading.{IsLoaded}
+use Rattle.ei_program.specs.Accepting.{IsBroken}
 use Rattle.ei_program.specs.Lines.{bytes_of, ended}
 use Rattle.ei_program.specs.Outcomes.{Told, told_of}
 use Rattle.ei_program.specs.Done.{Rest, untouched, Done, ended_early, IsLeft}
@@ -30,8 +31,8 @@ LeavesDue given of_input outcome written =
 
 -- words that are no command line
 pub refused_words : (given : Given) (of_file of_input : Option (List ℕ)) → ¬ IsCommandLine given.words → of_input ≡ Some given.input → Leaves given of_file of_input BadWords []
-refused_words given of_file of_input no is =
-    (ended_early (told_of BadWords), record { result = Err (told_of BadWords); comes = inl (told_of BadWords, (no, refl), refl); is = refl }, refl, is, refl)
+refused_words given of_file of_input none is =
+    (ended_early (told_of BadWords), record { result = Err (told_of BadWords); comes = inl (told_of BadWords, (none, refl), refl); is = refl }, refl, is, refl)
 
 module _ (given : Given) (task : Task) (name : List ℕ) (terms : Option (List ℕ)) (asks : Asks given.words task name terms) where
   abbrev command : Command
@@ -49,7 +50,7 @@ module _ (given : Given) (task : Task) (name : List ℕ) (terms : Option (List �
       (ended_early told, ends_early told (inr (file, found, inl (fault, why, refl))), refl, is, refl)
   not_accepted of_file of_input (Broken breaks rules) is (file, d, found, defines, broken) =
       let told = told_of (Broken breaks rules) in
-      let why = record { definitions = d; defines = defines; breaks = breaks; listed = broken.listed; some = broken.some; status = refl; message = broken.told } in
+      let why : IsBroken task.syntax file told = record { definitions = d; defines = defines; breaks = breaks; listed = broken.listed; some = broken.some; status = refl; message = broken.told } in
       (ended_early told, ends_early told (inr (file, found, inr why)), refl, is, refl)
   not_accepted of_file of_input (Stopped NoMemory) is l = ([], inl refl, refl)
   not_accepted of_file of_input (Stopped ReadFailed) is l = inl (is, refl)

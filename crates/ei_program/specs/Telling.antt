@@ -33,10 +33,10 @@ pub record HasOutcome (Left : Outcome → List ℕ → Type 0) (out_old out_new 
 
 -- all of this was done: what is left of the input, what is written, and what is told
 pub record IsDone (input : List ℕ) (done : Done) (left out_old out_new err_old err_new : Option (List ℕ))
-    (status : Status) : Type 0 where
+    (result : Status) : Type 0 where
   pub rest : IsLeft input done.rest left
   pub lines : Appends out_old out_new (bytes_of done.lines)
-  pub status : status ≡ done.told.status
+  pub status : result ≡ done.told.status
   pub message : Appends err_old err_new done.told.message
 
 -- memory ran out, or something is due, and all of it was done
