@@ -1,5 +1,6 @@
 //! The program `ei`: the equation interpreter over the files, the input, the output and the errors of its process.
 #![tactic(auto)]
+
 ghost use Rattle.ei_program.specs.declared.stop.Stop.TheVariants.{NoMemory as NoMemoryLeft};
 ghost use Rattle.ei_program.specs.declared.outcome.Outcome.TheVariants.{Stopped};
 ghost use Rattle.ei_program.specs.Outcomes.{told_of};

@@ -1,10 +1,9 @@
 -- The fault of a term stands within the bytes that are read, or at their end.
-use Rattle.std.proofs.Common.{◌≡◌, ℕ, ◌+◌, ◌≤◌, Bool, true, false, cond, List, [], ◌∷◌, ◌++◌, length, take, drop, arith, Option, Some, None, Result, Ok, Err, inl, inr, refl, sym, ap, ◌∙◌, subst, length-drop, length-append}
+use Rattle.std.proofs.Common.{◌≡◌, ℕ, ◌+◌, ◌≤◌, Bool, true, false, cond, List, [], ◌∷◌, length, take, drop, arith, Option, Some, None, Result, Ok, Err, inl, inr, sym, ap, subst, length-drop, length-append}
 use Rattle.std.specs.Prelude.{nat_lt, ◌==◌}
 use Rattle.std.specs.List.{AllByRecursion, prefix_len}
 use Rattle.std.specs.Char.{is_ascii_digit}
 use Rattle.std.specs.Str.Parse.{digits_value}
-
 use Rattle.eq_base.specs.Tree.{cells}
 use Rattle.eq_base.proofs.Lists.{all_front, all_back}
 use Rattle.term_lex.specs.declared.token.Token.{Token}
@@ -17,13 +16,13 @@ use Rattle.term_lex.specs.declared.syntax.Syntax.{Syntax}
 use Rattle.term_lex.specs.declared.syntax.Syntax.TheVariants.{Standmath, LispM}
 use Rattle.term_lex.specs.Bytes.{is_name_start, is_name_byte, is_plain, is_escape, sign_of}
 use Rattle.term_lex.specs.Strings.{spelled}
-use Rattle.term_lex.specs.Tokens.{token, fault, name_of, is_in_range, numeral_of, minus_of, one_byte, plain_token, escape_end, string_end, BeginsString, Begins, FirstToken}
-use Rattle.term_lex.specs.Lexemes.{Lexeme, FirstLexeme, Scans, IsFirstFault}
+use Rattle.term_lex.specs.Tokens.{token, fault, name_of, is_in_range, numeral_of, minus_of, one_byte, plain_token, escape_end, string_end, BeginsString, FirstToken}
+use Rattle.term_lex.specs.Lexemes.{Lexeme, Scans, IsFirstFault}
 use Rattle.term_lex.proofs.Tokens.{token_within}
 use Rattle.term_lex.proofs.Readings.{scans_within}
 use Rattle.symbol_table.specs.Table.{Table}
-use Rattle.written_terms.specs.Notation.{Notation, IsDotted}
-use Rattle.written_terms.specs.Refusing.{IsFirstRefused, MeansNoTerm, RefusesTerm}
+use Rattle.written_terms.specs.Notation.{IsDotted}
+use Rattle.written_terms.specs.Refusing.{MeansNoTerm}
 use Rattle.def_file.specs.Notations.{notation_of}
 use Rattle.term_input.specs.TermReading.{ReadsOne}
 use Rattle.term_input.proofs.StandmathOutlines as standmath

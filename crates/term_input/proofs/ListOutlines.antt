@@ -1,5 +1,5 @@
 -- What all lexemes of a LISP.M term have, the lexemes of its outline have.
-use Rattle.std.proofs.Common.{◌≡◌, ℕ, List, [], ◌∷◌, ◌++◌, map, sym, subst}
+use Rattle.std.proofs.Common.{List, [], ◌∷◌, ◌++◌, map, sym, subst}
 use Rattle.std.specs.List.{AllByRecursion}
 use Rattle.eq_base.specs.Tree.{cells, all_cells}
 use Rattle.eq_base.proofs.Lists.{all_front, all_back, all_both}
