@@ -63,7 +63,7 @@ gap-preserved g c =
     let from : old.place ≤ dropped.place = subst (λ k. old.place ≤ k) (sym dropped_place) (le_then old.place mid.place place i.from within.0) in
     record {
       count = counted_then before between now old mid new i.count
-      (counted_then between between now mid dropped new (counted_same between mid dropped dropped_limit (ap (λ (h : Held). h.state) c.drop_to.ensures)) (counted_take between now b left dropped new e.count e.takes));
+          (counted_then between between now mid dropped new (counted_same between mid dropped dropped_limit (ap (λ (h : Held). h.state) c.drop_to.ensures)) (counted_take between now b left dropped new e.count e.takes));
       through = e.through ∙ i.through;
       from = subst (λ k. old.place ≤ k) (sym e.takes.place) from;
       within = moved_within new.place new.limit place mid.limit (e.takes.place ∙ dropped_place) (e.takes.limit ∙ dropped_limit) within.2;

@@ -27,7 +27,7 @@ pieces-preserved g c =
     record {
       may = (c.may_change.ensures.0 c.if-not-may_change.false).0;
       count = counted_then (g.I.Source.faults c.args.input.now) (g.I.Source.faults c.pieces.input) (g.I.Source.faults c.take_more.new.source) c.args.stream.now c.pieces.stream c.take_more.new.self i.count
-      (counted_take (g.I.Source.faults c.pieces.input) (g.I.Source.faults c.take_more.new.source) mid left c.pieces.stream c.take_more.new.self c.in_ok-take_more.ensures.count takes);
+          (counted_take (g.I.Source.faults c.pieces.input) (g.I.Source.faults c.take_more.new.source) mid left c.pieces.stream c.take_more.new.self c.in_ok-take_more.ensures.count takes);
       through = c.in_ok-take_more.ensures.through ∙ i.through;
       place = takes.place ∙ i.place;
       more = (farther mid left c.args.stream.now c.pieces.stream c.take_more.new.self i.place i.more i.may takes).more;
