@@ -4,7 +4,7 @@ use Rattle.std.specs.Prelude.{codes}
 use Rattle.term_lex.specs.declared.token.Token.{Token}
 use Rattle.term_lex.specs.declared.token.TokenKind.TheVariants.{Name, Numeral, CloseRound, Semicolon, Colon, Dot}
 use Rattle.term_lex.specs.Lexemes.{Lexeme, IsViable, Plainly}
-use Rattle.term_lex.specs.Parts.{IsKind, IsWord, Nothing, One, Then, BeginsWith, Some, Led, NextIs}
+use Rattle.term_lex.specs.Parts.{IsKind, IsWord, Nothing, One, Then, Some, Led, NextIs}
 use Rattle.term_lex.proofs.Marks.{Kind, Word}
 use Rattle.term_lex.proofs.Answers.{nothing_by}
 use Rattle.term_lex.proofs.ListAnswers.{led_to}
@@ -14,7 +14,7 @@ use Rattle.written_terms.specs.Notation.{Notation}
 use Rattle.written_terms.proofs.Notations.{IsLawful}
 use Rattle.def_file.specs.declared.error.FileError.{FileError}
 use Rattle.def_file.specs.Trees.{Declares, IncludesClasses, ClassItem, InClass, OneOf, Condition, Sides, Equates, IncludesOperations}
-use Rattle.def_file.specs.Grammar.{IsToken, IsTermFrom, IsInclude, IsNames, IsIncludeOf, IsDeclaration, IsSymbolItem, IsMember, AreMoreClasses, AreListed, AreClasses, IsNameList, IsVariables, IsInClass, IsOneOf, IsRestriction, IsConditions, IsWhere, IsEquation, IsItem}
+use Rattle.def_file.specs.Grammar.{IsToken, IsInclude, IsNames, IsIncludeOf, IsDeclaration, IsSymbolItem, IsMember, AreMoreClasses, AreListed, AreClasses, IsNameList, IsVariables, IsInClass, IsOneOf, IsRestriction, IsConditions, IsWhere, IsEquation, IsItem}
 use Rattle.def_file.specs.Reading.{IsReadAs, IsSyntaxRefused}
 use Rattle.def_file.proofs.WithoutTerms.{an_include_never}
 use Rattle.def_file.proofs.Readings.{lifted_refused, first_read, first_choice_refused, second_read, second_choice_refused}

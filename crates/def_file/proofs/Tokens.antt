@@ -8,7 +8,7 @@ use Rattle.term_lex.specs.Lexemes.{Lexeme, lexeme, Scans, IsAnswer, misplaced}
 use Rattle.term_lex.specs.Parts.{IsWord, One, BeginsWith, Some, NextIs}
 use Rattle.term_lex.proofs.Readings.{lexeme_found, one_lexeme, no_lexeme}
 use Rattle.term_lex.proofs.PlainAnswers.{kind_ok, kind_bad, kind_misplaced, word_ok, word_bad, word_misplaced, answer_within}
-use Rattle.term_lex.proofs.Telling.{Plain, plain, IsAnswerIn, same_answer}
+use Rattle.term_lex.proofs.Telling.{plain, IsAnswerIn, same_answer}
 use Rattle.written_terms.specs.Notation.{Notation, IsSomeTerm}
 use Rattle.written_terms.proofs.Notations.{IsLawful}
 use Rattle.written_terms.specs.Answering as terms

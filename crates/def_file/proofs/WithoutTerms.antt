@@ -1,5 +1,5 @@
 -- The parts of a file that have no terms have no closing brackets.
-use Rattle.std.proofs.Common.{◌≡◌, List, [], ◌∷◌, sym, subst, inl, inr, refl}
+use Rattle.std.proofs.Common.{List, [], ◌∷◌, sym, subst, inl, inr, refl}
 use Rattle.std.specs.Prelude.{ℕ, codes}
 use Rattle.std.specs.List.{AllByRecursion}
 use Rattle.eq_base.proofs.Lists.{all_both}

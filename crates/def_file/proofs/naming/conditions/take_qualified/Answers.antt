@@ -1,4 +1,4 @@
-use Rattle.std.proofs.Common.{◌≡◌, ◌↔◌, ℕ, List, map, Option, Some, None, Bool, true, false, true≢false, inl, refl, subst, sym, ap, ◌∙◌}
+use Rattle.std.proofs.Common.{◌≡◌, ◌↔◌, ℕ, List, map, Option, Some, None, true, false, true≢false, inl, refl, subst, sym, ap, ◌∙◌}
 use Rattle.std.specs.Prelude.{Contains, is_some, slice_get}
 use Rattle.std.proofs.lemmas.Option.{slice_get-get_or}
 use Rattle.def_file.specs.Names.{token_bytes}

@@ -1,4 +1,4 @@
-use Rattle.std.proofs.Common.{◌≡◌, ◌∷◌, [], ◌∙◌, Err, rules, map, ap, get_or, subst, arith}
+use Rattle.std.proofs.Common.{◌≡◌, ◌∷◌, [], ◌∙◌, Err, rules, map, ap, get_or, subst}
 use Rattle.std.proofs.lemmas.List.{drop_all}
 use Rattle.def_file.specs.Names.{Member}
 use Rattle.def_file.specs.Naming.{ArePlaced, no_operations}

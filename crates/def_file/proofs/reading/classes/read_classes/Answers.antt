@@ -1,4 +1,4 @@
-use Rattle.std.proofs.Common.{◌≡◌, [], ◌∷◌, Err, rules, map, sym, subst}
+use Rattle.std.proofs.Common.{◌≡◌, [], Err, rules, map, sym, subst}
 use Rattle.term_lex.specs.Parts.{Some as SomeTree}
 use Rattle.def_file.specs.Grammar.{AreClasses}
 use Rattle.def_file.specs.Views.{class_item}
