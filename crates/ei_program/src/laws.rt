@@ -8,7 +8,7 @@ ghost use Rattle.orthogonal_laws.specs.Strategy.{HasLength};
 ghost use Rattle.ei_program.specs.declared.settings.Settings.{Settings};
 ghost use Rattle.ei_program.specs.Phases.{HasOne};
 ghost use Rattle.ei_program.specs.Definitions.{Definitions, system, IsAccepted};
-ghost use Rattle.ei_program.specs.Lines.{IsFormLine, IsLine};
+ghost use Rattle.ei_program.specs.Lines.{ReducesTo, PrintsForm, IsFormLine, IsLine, IsQuestion};
 ghost use Rattle.ei_program.specs.Done.{Done};
 ghost use Rattle.ei_program.specs.Answering.{AnswersText, AnswersFirst};
 ghost use Rattle.ei_program.specs.Run.{Given, IsDue, Begins};
@@ -29,10 +29,14 @@ pub fn one_answer_is_due()
         → AnswersText settings d None text done → IsFront lines done.lines }
 {}
 
-/// A term has one line at most. Where any derivation from it ends in a normal form, there is a number, which no budget
-/// and no other setting changes, from which on each budget answers with that form.
-pub fn large_budgets_answer()
+/// A term has one line at most. One that does not begin with `?` is the print of the normal form. Where any derivation
+/// ends in a normal form, there is a number, fixed by the equations and the term alone, from which on each budget answers
+/// with that form.
+pub fn lines_are_right()
     ensures one { (settings : Settings) (d : Definitions) (t : Tree ReadHead) → HasOne (IsLine settings d t) }
+    ensures printed { (settings : Settings) (d : Definitions) (t : Tree ReadHead) (line : List ℕ)
+        → IsLine settings d t line → ¬ IsQuestion line
+        → (form : Tree ReadHead) × ReducesTo settings.budget d t form × PrintsForm settings d form line }
     ensures answered { (settings : Settings) (d : Definitions) (t form : Tree ReadHead) (line : List ℕ)
         → IsDerivable (system d) t form → IsNormal (system d) form → IsLine settings d t line
         → (steps : ℕ) × HasLength (system d) t steps form

@@ -24,7 +24,7 @@ mod telling;
 mod tests;
 mod top_call;
 
-pub use laws::{large_budgets_answer, one_answer_is_due, one_thing_is_due};
+pub use laws::{lines_are_right, one_answer_is_due, one_thing_is_due};
 pub use ready::Ready;
 pub use settings::Settings;
 pub use status::Status;

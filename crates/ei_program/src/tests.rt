@@ -1,4 +1,6 @@
 // The worked rows, over the ports in memory: the status, and both outputs byte for byte.
+ghost use Rattle.std.specs.Prelude.{◌≡◌, IfOk, string_bytes};
+
 mod limits;
 mod samples;
 
@@ -58,17 +60,20 @@ impl Row<'_> {
     }
 }
 
-fn named(alloc: Global, name: &str, text: &str) -> Result<(String, Vec<u8>), AllocError> {
+/// A file with its name.
+fn named(alloc: Global, name: &str, text: &str) -> Result<(String, Vec<u8>), AllocError>
+    ensures { IfOk result (λ file. string_bytes file.0 ≡ name.now) }
+{
     let name = String::from_str(alloc, name)?;
     let bytes = text.as_bytes().to_vec(alloc)?;
     Ok((name, bytes))
 }
 
 fn files(alloc: Global, file: &str, terms: &str, fails: u64) -> Result<MemoryFiles, AllocError> {
-    let mut list = Vec::new(alloc);
-    list.push(named(alloc, "E", file)?)?;
-    list.push(named(alloc, "T", terms)?)?;
-    list.push(named(alloc, "--check", file)?)?;
+    let equations = named(alloc, "E", file)?;
+    let named_terms = named(alloc, "T", terms)?;
+    let option = named(alloc, "--check", file)?;
+    let list = vec![in alloc; equations, named_terms, option]?;
     Ok(MemoryFiles::new(list, 4096, vec![in alloc; fails]?))
 }
 

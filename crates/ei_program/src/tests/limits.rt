@@ -10,11 +10,11 @@ use std::process::Abort;
 use std::test::Fail;
 use term_lex::Syntax;
 
-/// Expects this of the answering of terms by Peano's equations.
+/// Expects this of the answering of terms by Peano's equations, where so many bytes of the input are read at most.
 fn expect_terms(
     rt: &impl Abort,
     alloc: Global,
-    settings: &Settings,
+    input_bytes: u32,
     input: &mut MemorySource,
     status: u8,
     output: &str,
@@ -25,9 +25,15 @@ fn expect_terms(
         assert!(rt; false, "the equations are not accepted");
         return Ok(());
     };
+    let settings = Settings {
+        syntax: Syntax::Standmath,
+        budget: 1_000_000,
+        most: 1_000_000,
+        input_bytes: u64::from(input_bytes),
+    };
     let mut out = sink(alloc, 0)?;
     let mut err = sink(alloc, 0)?;
-    let ended = answer_terms(alloc, &mut ready, settings, input, &mut out, &mut err);
+    let ended = answer_terms(alloc, &mut ready, &settings, input, &mut out, &mut err);
     assert_eq!(rt; ended.number(), status);
     assert_eq!(rt; out.written(), output.as_bytes());
     assert_eq!(rt; err.written(), errors.as_bytes());
@@ -54,14 +60,8 @@ fn limited_inputs(rt: HostRuntime) -> Result<(), Fail> {
         ),
         (5, "z. \"ab", 9, "z\n", long),
     ] {
-        let settings = Settings {
-            syntax: Syntax::Standmath,
-            budget: 1_000_000,
-            most: 1_000_000,
-            input_bytes,
-        };
         let mut input = source(alloc, input, 0)?;
-        expect_terms(&rt, alloc, &settings, &mut input, status, output, errors)?;
+        expect_terms(&rt, alloc, input_bytes, &mut input, status, output, errors)?;
     }
     Ok(())
 }
@@ -75,17 +75,11 @@ fn expect_wide(
     output: &str,
     errors: &str,
 ) -> Result<(), AllocError> {
-    let settings = Settings {
-        syntax: Syntax::Standmath,
-        budget: 1_000_000,
-        most: 1_000_000,
-        input_bytes: 1_099_511_627_776,
-    };
     let mut text = front.as_bytes().to_vec(alloc)?;
     text.extend_from_slice(&vec![in alloc; b' '; blanks]?)?;
     text.extend_from_slice(back.as_bytes())?;
     let mut input = MemorySource::new(text, 65_536, Vec::new(alloc));
-    expect_terms(rt, alloc, &settings, &mut input, status, output, errors)
+    expect_terms(rt, alloc, u32::MAX, &mut input, status, output, errors)
 }
 
 #[test]
