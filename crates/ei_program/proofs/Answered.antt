@@ -1,11 +1,10 @@
 -- The answering of an input, term by term: what was answered so far, and what comes of it.
-use Rattle.std.proofs.Common.{◌≡◌, ◌≢◌, ◌⊎◌, ℕ, ◌+◌, ◌<◌, ◌≤◌, Bool, true, false, List, [], ◌∷◌, ◌++◌, length, take, drop, flat_map, arith, Option, Some, None, Result, Ok, Err, inl, inr, refl, sym, ◌∙◌, ap, subst, append-nil, append_assoc}
-use Rattle.std.specs.Io.KnownBytes.{Appends, Consumes, IsAtEnd}
-use Rattle.std.proofs.lemmas.List.{length-take}
+use Rattle.std.proofs.Common.{◌≡◌, ℕ, ◌≤◌, Bool, true, false, List, [], ◌∷◌, ◌++◌, length, take, arith, Option, Ok, Err, inl, inr, refl, sym, ◌∙◌, ap, subst, append-nil, append_assoc}
+use Rattle.std.specs.Io.KnownBytes.{Appends}
 use Rattle.eq_base.specs.Tree.{Tree}
 use Rattle.eq_base.specs.ReadHead.{ReadHead}
 use Rattle.eq_ports.proofs.Known.{appends_both, appends_none}
-use Rattle.symbol_table.specs.Table.{Table, HasDistinctNames, IsFront}
+use Rattle.symbol_table.specs.Table.{HasDistinctNames}
 use Rattle.term_input.specs.Ending.{BytesEnded}
 use Rattle.term_input.specs.Inputs as inputs
 use Rattle.term_input.specs.TermReading.{ReadsOne, IsReadAs, AreFirst}
@@ -18,7 +17,6 @@ use Rattle.ei_program.specs.declared.settings.Settings.{Settings}
 use Rattle.ei_program.specs.Definitions.{Definitions}
 use Rattle.ei_program.specs.Lines.{IsQuestion, SomeQuestion, AreLines, IsLine, ended, bytes_of}
 use Rattle.ei_program.specs.Reading.{TermNext}
-use Rattle.ei_program.specs.Answering.{AnswersFirst}
 use Rattle.ei_program.proofs.OneLine.{lines_more}
 
 -- whether some line begins with `?`

@@ -1,6 +1,6 @@
 -- The answers of plain runs: the only normal form, or that the budget is spent.
-use Rattle.std.proofs.Common.{◌≡◌, ◌<◌, ◌≤◌, ℕ, List, [], ◌++◌, Result, Ok, Err, inl, inr, refl, sym, ap, subst}
-use Rattle.std.specs.Prelude.{IfOk, codes, decimal}
+use Rattle.std.proofs.Common.{◌≡◌, ◌<◌, ◌≤◌, ℕ, List, [], ◌++◌, inl, inr, refl, sym, ap, subst}
+use Rattle.std.specs.Prelude.{codes, decimal}
 use Rattle.eq_base.specs.Tree.{Tree, node, size, nth_subtree}
 use Rattle.eq_base.specs.Rewriting.{System, IsNormal}
 use Rattle.eq_base.specs.declared.head.Head.{Head}

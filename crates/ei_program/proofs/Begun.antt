@@ -3,7 +3,6 @@ use Rattle.std.proofs.Common.{◌≡◌, ℕ, List, [], ◌∷◌, ◌++◌, Opt
 use Rattle.symbol_table.specs.Table.{HasDistinctNames, IsFront}
 use Rattle.command_line.specs.declared.task.Mode.{Mode}
 use Rattle.command_line.specs.declared.task.Mode.TheVariants.{Answer, Check}
-use Rattle.command_line.specs.Asked.{Asks}
 use Rattle.term_input.specs.Ending.{BytesEnded}
 use Rattle.term_input.specs.TermReading.{ReadsOne}
 use Rattle.term_input.proofs.Inputs.{first_front}
@@ -15,7 +14,7 @@ use Rattle.ei_program.specs.Outcomes.{Told}
 use Rattle.ei_program.specs.Phases.{HasOne}
 use Rattle.ei_program.specs.Done.{Done}
 use Rattle.ei_program.specs.Answering.{AnswersText, AnswersFirst}
-use Rattle.ei_program.specs.Run.{Given, Command, settings_of, HasWords, HasDefinitions, DoesMode, Comes, done_of, IsDue, BeginsMode, HasBegun, Begins}
+use Rattle.ei_program.specs.Run.{Given, Command, settings_of, HasDefinitions, DoesMode, Comes, done_of, IsDue, BeginsMode, HasBegun, Begins}
 use Rattle.ei_program.proofs.OneLine.{one_line}
 use Rattle.ei_program.proofs.OneDue.{words_one, terms_one, definitions_one, defined_distinct}
 

@@ -1,5 +1,5 @@
 -- Bytes behind a place of a text.
-use Rattle.std.proofs.Common.{◌≡◌, ℕ, zero, suc, ◌+◌, ◌<◌, ◌≤◌, List, [], ◌∷◌, length, drop, arith, refl, sym, ◌∙◌, ap, slice_get, length-drop}
+use Rattle.std.proofs.Common.{◌≡◌, ℕ, zero, suc, ◌+◌, ◌<◌, List, [], ◌∷◌, length, drop, arith, refl, ap, slice_get, length-drop}
 
 -- nothing stands at any place of nothing
 none_at : {A : Type 0} (xs : List A) (m n : ℕ) → length xs ≡ 0 → slice_get xs m ≡ slice_get xs n

@@ -1,7 +1,7 @@
 -- The terms of a file that was chosen, or could not be.
 use Rattle.std.specs.Prelude.{IfSome, OnOk}
 use Rattle.std.specs.Result.{is_err}
-use Rattle.std.proofs.Common.{◌≡◌, ℕ, List, [], Bool, true, false, Option, Some, None, Result, Ok, Err, inl, inr, refl, subst}
+use Rattle.std.proofs.Common.{◌≡◌, ℕ, List, [], true, false, Option, Some, None, Result, Ok, Err, inl, inr, refl, subst}
 use Rattle.eq_ports.specs.Moves.{BeginsAt, Named}
 use Rattle.ei_program.specs.declared.settings.Settings.{Settings}
 use Rattle.ei_program.specs.declared.stop.Stop.TheVariants.{ReadFailed}

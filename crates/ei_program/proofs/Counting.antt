@@ -1,10 +1,10 @@
 -- The fault counts of takings, and how much can be taken still.
-use Rattle.std.proofs.Common.{◌≡◌, ◌≢◌, ◌⊎◌, ℕ, ◌+◌, ◌-◌, ◌<◌, ◌≤◌, List, ◌++◌, length, drop, arith, Option, inl, inr, refl, sym, ◌∙◌, ap, subst, length-drop, length-append}
+use Rattle.std.proofs.Common.{◌≡◌, ◌≢◌, ◌⊎◌, ℕ, ◌+◌, ◌-◌, ◌<◌, ◌≤◌, List, length, arith, Option, inl, inr, refl, sym, ◌∙◌, ap, length-append}
 use Rattle.eq_ports.specs.Causes.{Rose}
 use Rattle.term_input.specs.declared.source_state.SourceState.{SourceState}
 use Rattle.term_input.specs.declared.source_state.SourceState.TheVariants.{Open, AtEnd, Failed}
-use Rattle.term_input.specs.Streams.{Held, taken_count, MayTake, Takes, HasFailed, IsTakingCount, IsTaken}
-use Rattle.term_input.proofs.Streams.{more_taken, given_up}
+use Rattle.term_input.specs.Streams.{Held, taken_count, MayTake, Takes, IsTakingCount}
+use Rattle.term_input.proofs.Streams.{more_taken}
 use Rattle.ei_program.specs.Reading.{Goes, IsCounted, IsFarther}
 
 abbrev state_of : Held → SourceState

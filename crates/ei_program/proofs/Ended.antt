@@ -1,16 +1,14 @@
 -- What is left of an input, and written, where its answering ends.
-use Rattle.std.proofs.Common.{◌≡◌, ◌≢◌, ◌⊎◌, ℕ, ◌+◌, ◌<◌, ◌≤◌, Bool, true, false, List, [], ◌∷◌, ◌++◌, length, arith, Option, Some, None, Result, Ok, Err, inl, inr, refl, sym, ◌∙◌, ap, subst, append-nil, append_assoc}
+use Rattle.std.proofs.Common.{◌≡◌, ◌≢◌, ℕ, Bool, true, false, List, [], ◌∷◌, ◌++◌, arith, Option, Some, None, Err, inl, inr, refl, sym, ◌∙◌, ap, subst, append-nil, append_assoc}
 use Rattle.std.specs.Io.KnownBytes.{Appends, Consumes, IsAtEnd}
 use Rattle.eq_base.specs.Tree.{Tree}
 use Rattle.eq_base.specs.ReadHead.{ReadHead}
 use Rattle.eq_ports.proofs.Known.{appends_both}
-use Rattle.symbol_table.specs.Table.{HasDistinctNames, IsFront}
-use Rattle.term_lex.specs.declared.fault.Fault.{Fault}
+use Rattle.symbol_table.specs.Table.{HasDistinctNames}
 use Rattle.term_input.specs.declared.source_state.SourceState.{SourceState}
 use Rattle.term_input.specs.declared.source_state.SourceState.TheVariants as states
 use Rattle.term_input.specs.Ending.{BytesEnded}
-use Rattle.term_input.specs.Inputs as inputs
-use Rattle.term_input.specs.TermReading.{ReadsOne, IsReadAs, AreFirst}
+use Rattle.term_input.specs.TermReading.{ReadsOne, AreFirst}
 use Rattle.term_input.specs.Streams.{Held, IsTaken}
 use Rattle.term_input.proofs.TermReaders.{term_reader}
 use Rattle.term_input.proofs.Windows.{first_of_front}
@@ -21,13 +19,13 @@ use Rattle.ei_program.specs.declared.outcome.Outcome.TheVariants.{Answered as Al
 use Rattle.ei_program.specs.declared.reading.End.{End}
 use Rattle.ei_program.specs.declared.reading.End.TheVariants as ends
 use Rattle.ei_program.specs.Definitions.{Definitions}
-use Rattle.ei_program.specs.Lines.{SomeQuestion, AreLines, IsLine, ended, bytes_of}
+use Rattle.ei_program.specs.Lines.{ended, bytes_of}
 use Rattle.ei_program.specs.Outcomes.{Told, told_of}
 use Rattle.ei_program.specs.Done.{Done, IsLeft}
 use Rattle.ei_program.specs.Reading.{end_of, TermNext, Settles}
 use Rattle.eq_ports.specs.Moves.{AppendsFront}
 use Rattle.ei_program.specs.Stepping.{Answers, IsOutcomeAt}
-use Rattle.ei_program.specs.Answering.{IsTold, rest_of, AnswersText, AnswersFirst, IsCutShort, TextLeft}
+use Rattle.ei_program.specs.Answering.{IsTold, rest_of, AnswersText, AnswersFirst, TextLeft}
 use Rattle.ei_program.specs.Run.{LeavesOn}
 use Rattle.ei_program.proofs.Taken.{failed_or_not}
 use Rattle.ei_program.proofs.Answered.{Answered, Tells, bytes_more, first_stay, first_more, lines_fit, read_to_end}

@@ -1,7 +1,6 @@
 -- What a run leaves, by its phases.
-use Rattle.std.proofs.Common.{◌≡◌, ◌⊎◌, ℕ, List, [], ◌∷◌, ◌++◌, Option, Some, None, Result, Ok, Err, inl, inr, refl, sym, ◌∙◌, ap, subst, append-nil}
+use Rattle.std.proofs.Common.{◌≡◌, ℕ, List, [], ◌∷◌, Option, Some, None, Ok, Err, inl, inr, refl, sym, ◌∙◌, subst, append-nil}
 use Rattle.symbol_table.specs.Table.{IsFront}
-use Rattle.command_line.specs.declared.task.Mode.{Mode}
 use Rattle.command_line.specs.declared.task.Mode.TheVariants.{Answer, Check}
 use Rattle.command_line.specs.declared.task.Task.{Task}
 use Rattle.command_line.specs.Asked.{Asks, IsCommandLine}
@@ -15,10 +14,10 @@ use Rattle.ei_program.specs.Loading.{IsLoaded}
 use Rattle.ei_program.specs.Accepting.{IsBroken}
 use Rattle.ei_program.specs.Lines.{bytes_of, ended}
 use Rattle.ei_program.specs.Outcomes.{Told, told_of}
-use Rattle.ei_program.specs.Done.{Rest, untouched, Done, ended_early, IsLeft}
-use Rattle.ei_program.specs.Answering.{AnswersText, AnswersFirst, IsCutShort, TextLeft, FileLeft}
+use Rattle.ei_program.specs.Done.{untouched, Done, ended_early, IsLeft}
+use Rattle.ei_program.specs.Answering.{AnswersText, AnswersFirst, TextLeft, FileLeft}
 use Rattle.ei_program.specs.Checking.{accepted_line, checked, IsChecked}
-use Rattle.ei_program.specs.Run.{Given, Command, settings_of, HasTerms, HasDefinitions, IsWork, AnswersTerms, DoesMode, BeginsMode, HasBegun, IsDue, Leaves}
+use Rattle.ei_program.specs.Run.{Given, Command, settings_of, HasTerms, HasDefinitions, DoesMode, BeginsMode, HasBegun, IsDue, Leaves}
 
 -- the file is there, gives these definitions, and they break no restriction
 abbrev pub Loads : Syntax → Option (List ℕ) → Definitions → Type 0

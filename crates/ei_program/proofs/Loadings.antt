@@ -1,12 +1,12 @@
 -- What is known of a file when its equations were checked.
-use Rattle.std.proofs.Common.{◌≡◌, ℕ, List, map, sym, ap, ◌∙◌, subst, Ok, Err}
+use Rattle.std.proofs.Common.{◌≡◌, ℕ, List, sym, ap, ◌∙◌, subst, Ok, Err}
 use Rattle.std.specs.Prelude.{IfOk, Result}
 use Rattle.std.specs.declared.option.Option.{Option}
 use Rattle.std.specs.declared.option.Option.TheVariants.{Some}
 use Rattle.eq_base.specs.Rules.{rule_of}
 use Rattle.eq_base.specs.RuleList.{RuleList}
 use Rattle.term_lex.specs.declared.syntax.Syntax.{Syntax}
-use Rattle.symbol_table.specs.Table.{HasOneNumberEach, names_of}
+use Rattle.symbol_table.specs.Table.{HasOneNumberEach}
 use Rattle.symbol_table.specs.Reading.{AreLive}
 use Rattle.regularity.specs.declared.breaks.Break.{Break}
 use Rattle.regularity.specs.Listing.{Lists}
@@ -19,8 +19,7 @@ use Rattle.ei_program.specs.declared.outcome.Outcome.{Outcome}
 use Rattle.ei_program.specs.declared.outcome.Outcome.TheVariants.{Answered, Questions, BadWords, FileRefused, Broken, TermRefused, InputLong, Stopped}
 use Rattle.ei_program.specs.declared.definitions.Equations.{Equations}
 use Rattle.ei_program.specs.declared.ready.Ready.{Ready}
-use Rattle.qualifiers.specs.AsRead.{plain_equation}
-use Rattle.ei_program.specs.Definitions.{Definitions, BreaksNone, Defines, definitions_in, definitions_of}
+use Rattle.ei_program.specs.Definitions.{BreaksNone, Defines, definitions_in, definitions_of}
 use Rattle.ei_program.specs.Restrictions.{origin_of, broken_text, AreBroken}
 use Rattle.ei_program.specs.Loading.{AreUsable, IsReady, IsAdmitted, IsLoaded}
 use Rattle.ei_program.proofs.Broken.{told_read, lists_read, none_read}

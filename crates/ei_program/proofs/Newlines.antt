@@ -1,5 +1,5 @@
 -- Whether a newline stands behind a place.
-use Rattle.std.proofs.Common.{◌≡◌, ◌≢◌, ℕ, ◌+◌, ◌-◌, ◌<◌, ◌≤◌, ◌==◌, Bool, true, false, List, length, drop, arith, Some, inl, inr, refl, sym, ◌∙◌, ap, subst, slice_get, slice_index_or}
+use Rattle.std.proofs.Common.{◌≡◌, ◌≢◌, ℕ, ◌+◌, ◌-◌, ◌≤◌, ◌==◌, Bool, true, false, List, drop, arith, Some, inl, inr, refl, sym, ◌∙◌, ap, slice_get, slice_index_or}
 use Rattle.std.specs.Prelude.{not}
 use Rattle.std.specs.List.{IsAnyAnswer}
 use Rattle.std.proofs.lemmas.Bool.{eqb-true, eqb-false}

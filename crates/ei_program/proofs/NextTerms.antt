@@ -1,5 +1,5 @@
 -- What comes next in what was taken: behind a gap, a term or the end.
-use Rattle.std.proofs.Common.{◌≡◌, ◌≢◌, ◌⊎◌, ℕ, ◌+◌, ◌<◌, ◌≤◌, List, [], ◌∷◌, ◌++◌, length, take, arith, Option, Some, Result, Ok, Err, inl, inr, refl, sym, ◌∙◌, ap, subst}
+use Rattle.std.proofs.Common.{◌≡◌, ◌≢◌, ℕ, ◌≤◌, List, [], ◌∷◌, ◌++◌, length, take, arith, Option, Ok, Err, inl, inr, refl, sym, ◌∙◌, ap, subst}
 use Rattle.std.specs.Io.KnownBytes.{IsAtEnd}
 use Rattle.std.proofs.lemmas.List.{length-take}
 use Rattle.term_lex.specs.declared.fault.Fault.{Fault}
@@ -12,14 +12,14 @@ use Rattle.term_input.specs.Places.{NothingLeft, StandsNext}
 use Rattle.term_input.specs.Ending.{BytesEnded}
 use Rattle.term_input.specs.Inputs as inputs
 use Rattle.term_input.specs.TermReading.{ReadsOne}
-use Rattle.term_input.specs.Streams.{Held, taken_count, MayTake, IsTaken}
+use Rattle.term_input.specs.Streams.{Held, MayTake, IsTaken}
 use Rattle.term_input.proofs.Gaps.{next_front}
 use Rattle.term_input.proofs.Inputs.{front_take}
 use Rattle.ei_program.specs.declared.reading.End.{End}
 use Rattle.ei_program.specs.declared.reading.End.TheVariants as ends
 use Rattle.ei_program.specs.declared.reading.Next.{Next}
 use Rattle.ei_program.specs.declared.reading.Next.TheVariants as nexts
-use Rattle.ei_program.specs.Reading.{end_of, TermNext, IsThing, Settles, ComesNext}
+use Rattle.ei_program.specs.Reading.{end_of, TermNext, IsThing, ComesNext}
 use Rattle.ei_program.proofs.Taken.{count, settled_behind, settled_at}
 
 -- what stands behind a gap of a front of the taken bytes stands there where more is taken

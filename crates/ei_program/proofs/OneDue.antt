@@ -1,7 +1,5 @@
 -- One thing at most is due of a run.
-use Rattle.std.proofs.Common.{◌≡◌, ◌⊎◌, ℕ, ◌<◌, ◌^◌, List, [], ◌∷◌, Option, Some, None, Result, Ok, Err, inl, inr, refl, sym, ◌∙◌, ap, subst, arith, length}
-use Rattle.eq_base.specs.Tree.{Tree}
-use Rattle.eq_base.specs.ReadHead.{ReadHead}
+use Rattle.std.proofs.Common.{◌≡◌, ℕ, ◌<◌, List, [], ◌∷◌, Option, Some, None, Ok, Err, inl, inr, refl, sym, ◌∙◌, ap, subst, arith, length}
 use Rattle.regularity.specs.declared.breaks.Break.{Break}
 use Rattle.regularity.specs.Listing.{Lists}
 use Rattle.regularity.proofs.OneListing.{one_listing}
@@ -20,7 +18,7 @@ use Rattle.ei_program.specs.declared.settings.Settings.{Settings}
 use Rattle.ei_program.specs.Definitions.{Definitions, Defines, rule_in, Breaks, BreaksNone}
 use Rattle.ei_program.specs.Restrictions.{broken_text}
 use Rattle.ei_program.specs.Accepting.{Accepts, IsBroken}
-use Rattle.ei_program.specs.Lines.{SomeQuestion, AreLines, IsLine}
+use Rattle.ei_program.specs.Lines.{AreLines, IsLine}
 use Rattle.ei_program.specs.declared.outcome.Outcome.TheVariants.{FileRefused}
 use Rattle.ei_program.specs.Outcomes.{Told, told_of}
 use Rattle.ei_program.specs.Phases.{HasOne, Then}

@@ -1,10 +1,9 @@
 -- A term has one line at most.
-use Rattle.std.proofs.Common.{◌≡◌, ◌⊎◌, ℕ, ◌<◌, ◌≤◌, List, [], ◌∷◌, ◌++◌, inl, inr, refl, sym, ◌∙◌, ap, subst, arith}
+use Rattle.std.proofs.Common.{◌≡◌, ℕ, List, [], ◌∷◌, ◌++◌, inl, inr, refl, sym, ◌∙◌, ap, subst, arith}
 use Rattle.std.specs.Prelude.{codes}
 use Rattle.std.proofs.lemmas.Bool.{cases_order}
-use Rattle.eq_base.specs.Tree.{Tree, size, nth_subtree}
+use Rattle.eq_base.specs.Tree.{Tree, nth_subtree}
 use Rattle.eq_base.specs.ReadHead.{ReadHead}
-use Rattle.symbol_table.specs.Table.{IsFront}
 use Rattle.orthogonal_laws.specs.Past.{HasNoPast, IsFirstPast}
 use Rattle.term_input.specs.Printing.{print}
 use Rattle.ei_program.specs.declared.settings.Settings.{Settings}

@@ -1,5 +1,5 @@
 -- One step of the answering, by what was done with what comes next.
-use Rattle.std.proofs.Common.{◌≡◌, ◌≢◌, ◌⊎◌, ℕ, ◌+◌, ◌-◌, ◌<◌, ◌≤◌, Bool, true, false, List, [], ◌∷◌, ◌++◌, length, take, arith, Option, Some, Ok, Err, inl, inr, refl, sym, ◌∙◌, ap, subst, slice_get}
+use Rattle.std.proofs.Common.{◌≡◌, ℕ, ◌+◌, ◌-◌, ◌<◌, Bool, true, List, [], ◌∷◌, ◌++◌, arith, Option, Some, Ok, Err, sym, subst}
 use Rattle.std.specs.Io.KnownBytes.{Appends}
 use Rattle.std.proofs.lemmas.List.{length-take}
 use Rattle.std.proofs.lemmas.Option.{none-some}
@@ -23,7 +23,7 @@ use Rattle.ei_program.specs.declared.answer.Step.TheVariants.{Answer, Question, 
 use Rattle.ei_program.specs.declared.outcome.Outcome.{Outcome}
 use Rattle.ei_program.specs.declared.outcome.Outcome.TheVariants.{Stopped}
 use Rattle.ei_program.specs.Definitions.{Definitions}
-use Rattle.ei_program.specs.Lines.{IsQuestion, IsLine, ended}
+use Rattle.ei_program.specs.Lines.{IsQuestion, ended}
 use Rattle.ei_program.specs.Reading.{end_of, Goes, TermNext, Settles}
 use Rattle.ei_program.specs.Answering.{TextLeft}
 use Rattle.ei_program.specs.Run.{LeavesOn}

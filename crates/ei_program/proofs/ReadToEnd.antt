@@ -10,12 +10,12 @@ use Rattle.term_input.specs.Inputs.{End, whole, refused, long}
 use Rattle.ei_program.specs.declared.settings.Settings.{Settings}
 use Rattle.ei_program.specs.declared.stop.Stop.TheVariants.{ReadFailed}
 use Rattle.ei_program.specs.declared.outcome.Outcome.{Outcome}
-use Rattle.ei_program.specs.declared.outcome.Outcome.TheVariants.{Answered, Questions, TermRefused, InputLong, Stopped}
+use Rattle.ei_program.specs.declared.outcome.Outcome.TheVariants.{Answered, Questions, Stopped}
 use Rattle.ei_program.specs.declared.status.Status.{Status}
 use Rattle.ei_program.specs.declared.status.Status.TheVariants as statuses
 use Rattle.ei_program.specs.Definitions.{Definitions}
 use Rattle.ei_program.specs.Loading.{IsLoaded}
-use Rattle.ei_program.specs.Outcomes.{Told, told_of}
+use Rattle.ei_program.specs.Outcomes.{Told}
 use Rattle.ei_program.specs.Done.{Rest, Done, IsLeft}
 use Rattle.ei_program.specs.Answering.{IsTold, rest_of, AnswersText, TextLeft, FileLeft}
 

@@ -1,11 +1,11 @@
 -- Blanks and comments of the bytes that are taken, a piece at a time.
-use Rattle.std.proofs.Common.{◌≡◌, ◌≢◌, ℕ, ◌+◌, ◌-◌, ◌<◌, ◌≤◌, Bool, true, false, List, [], ◌++◌, length, drop, take, arith, Option, Some, inl, inr, refl, sym, ◌∙◌, ap, subst, slice_get, length-drop, length-append, append-nil, append_assoc, drop-drop}
+use Rattle.std.proofs.Common.{◌≡◌, ℕ, ◌+◌, ◌-◌, ◌<◌, ◌≤◌, Bool, true, false, List, [], ◌++◌, length, drop, take, arith, Option, inl, inr, refl, sym, ◌∙◌, ap, subst, length-drop, length-append, append-nil, append_assoc, drop-drop}
 use Rattle.std.specs.Prelude.{nat_lt}
 use Rattle.std.proofs.lemmas.List.{drop-append-le, length-take}
 use borrow.Author.Tests.{ltb-true, ltb-false}
 use Rattle.term_lex.specs.Gaps.{IsSkipped, IsGap}
 use Rattle.term_lex.proofs.Gaps.{Passed, gap_whole, none_passed}
-use Rattle.term_input.specs.Places.{IsNextByte, NothingLeft, StandsNext}
+use Rattle.term_input.specs.Places.{NothingLeft, StandsNext}
 use Rattle.term_input.specs.Streams.{Held, taken_count, MayTake, Takes, IsTaken}
 use Rattle.term_input.proofs.Gaps.{get_front}
 use Rattle.term_input.proofs.Inputs.{front_take}

@@ -1,6 +1,5 @@
 -- What is taken for the next term, until it is read or its fault stands.
-use Rattle.std.proofs.Common.{◌≡◌, ◌≢◌, ◌⊎◌, ℕ, ◌+◌, ◌-◌, ◌<◌, ◌≤◌, Bool, true, false, List, [], ◌++◌, length, drop, take, arith, Option, Result, Ok, Err, inl, inr, refl, sym, ◌∙◌, ap, subst, append_assoc, length-append}
-use Rattle.std.proofs.lemmas.List.{length-take}
+use Rattle.std.proofs.Common.{◌≡◌, ◌≢◌, ◌⊎◌, ℕ, ◌+◌, ◌<◌, ◌≤◌, true, false, List, [], ◌++◌, length, take, arith, Option, Result, Ok, Err, inl, inr, refl, sym, ◌∙◌, ap, subst, append_assoc, length-append}
 use Rattle.eq_base.specs.declared.head.Head.{Head}
 use Rattle.eq_base.specs.Tree.{Tree}
 use Rattle.eq_base.specs.ReadHead.{ReadHead}
@@ -15,14 +14,14 @@ use Rattle.term_input.specs.declared.source_state.SourceState.TheVariants.{Open,
 use Rattle.term_input.specs.Ending.{BytesEnded}
 use Rattle.term_input.specs.Inputs as inputs
 use Rattle.term_input.specs.TermReading.{ReadsOne}
-use Rattle.term_input.specs.Streams.{Held, taken_count, MayTake, Takes, IsTaken}
+use Rattle.term_input.specs.Streams.{Held, MayTake, Takes, IsTaken}
 use Rattle.term_input.proofs.Streams.{given_up}
 use Rattle.term_input.proofs.TermReaders.{term_within}
 use Rattle.ei_program.specs.declared.reading.End.{End}
 use Rattle.ei_program.specs.declared.reading.End.TheVariants as ends
 use Rattle.ei_program.specs.declared.reading.Next.{Next}
 use Rattle.ei_program.specs.declared.reading.Next.TheVariants as nexts
-use Rattle.ei_program.specs.Reading.{end_of, readable, window_of, MayChange, EndsSo, Goes, IsFarther, SkipsTo, window, IsThing, ComesNext}
+use Rattle.ei_program.specs.Reading.{end_of, window_of, MayChange, EndsSo, Goes, IsFarther, SkipsTo, window, IsThing, ComesNext}
 use Rattle.ei_program.proofs.Taken.{window_taken, ends_taken, goes_then, goes_weaker}
 use Rattle.ei_program.proofs.Lengths.{le_zero, le_then, behind_front, behind_le}
 use Rattle.ei_program.proofs.HeldWindows.{window_held, window_most}

@@ -1,5 +1,5 @@
 -- The lines that answer terms.
-use Rattle.std.specs.Prelude.{◌≡◌, ◌⊎◌, ℕ, ◌<◌, ◌≤◌, List, [], ◌∷◌, ◌++◌, flat_map, length, codes, decimal}
+use Rattle.std.specs.Prelude.{◌≡◌, ◌⊎◌, ℕ, ◌<◌, ◌≤◌, List, [], ◌∷◌, ◌++◌, flat_map, codes, decimal}
 use Rattle.std.specs.Prelude.{Some, slice_get}
 use Rattle.eq_base.specs.Tree.{Tree, size, nth_subtree}
 use Rattle.eq_base.specs.Rewriting.{IsDerivable, IsNormal}

@@ -9,8 +9,7 @@ use Rattle.eq_base.specs.declared.rules.Origin.{Origin}
 use Rattle.eq_base.specs.declared.rules.Equation.{Equation}
 use Rattle.regularity.specs.declared.breaks.Break.{Break}
 use Rattle.regularity.specs.Listing.{Lists}
-use Rattle.eq_base.specs.ReadHead.{ReadHead}
-use Rattle.qualifiers.specs.Expansion.{PlainEquation, origin_in}
+use Rattle.qualifiers.specs.Expansion.{origin_in}
 use Rattle.ei_program.specs.Definitions.{Definitions, rule_in, Breaks}
 
 -- the number of a part, behind a dot, where the item has parts

@@ -1,7 +1,6 @@
-use Rattle.std.proofs.Common.{◌≡◌, List, false, refl, sym, ◌∙◌, ap, subst}
+use Rattle.std.proofs.Common.{◌≡◌, false, refl, sym, ◌∙◌, ap, subst}
 use Rattle.term_input.specs.declared.source_state.SourceState.{SourceState}
 use Rattle.term_input.specs.Streams.{Held, nothing_held}
-use Rattle.ei_program.specs.declared.ready.Ready.{Ready}
 use Rattle.ei_program.specs.declared.stop.Stop.TheVariants.{WriteFailed}
 use Rattle.ei_program.specs.declared.outcome.Outcome.TheVariants.{Stopped}
 use Rattle.ei_program.specs.declared.answer.Step.TheVariants.{Answer, Question, End, Stopped as StoppedBy}

@@ -1,4 +1,4 @@
-use Rattle.std.proofs.Common.{◌≡◌, ◌+◌, ◌-◌, ℕ}
+use Rattle.std.proofs.Common.{◌≡◌, ◌+◌, ◌-◌}
 use Rattle.term_input.specs.Streams.{nothing_held}
 use Rattle.ei_program.specs.Definitions.{definitions_of}
 use Rattle.ei_program.specs.Reading.{IsCounted}

@@ -1,5 +1,4 @@
-use Rattle.std.proofs.Common.{List, ℕ, refl, sym, subst}
-use Rattle.symbol_table.specs.Table.{names_of}
+use Rattle.std.proofs.Common.{List, ℕ, refl, subst}
 use Rattle.symbol_table.specs.Reading.{read}
 use Rattle.symbol_table.proofs.Keeping.{keeps_same, keeps_trans}
 use Rattle.ei_program.specs.declared.reading.Next.{Next}

@@ -1,6 +1,6 @@
-use Rattle.std.proofs.Common.{◌≡◌, ◌+◌, ℕ, Some, arith, sym, ap, subst, slice_get, slice_index_or, ◌∙◌, refl, drop, List}
+use Rattle.std.proofs.Common.{◌≡◌, ◌+◌, Some, arith, sym, ap, subst, slice_get, slice_index_or, ◌∙◌, refl}
 use Rattle.std.proofs.lemmas.Option.{slice_get-get_or}
-use Rattle.term_lex.proofs.Gaps.{Passed, comment_passed, sign_passed, blank_passed, gap_before}
+use Rattle.term_lex.proofs.Gaps.{Passed, comment_passed, sign_passed, blank_passed}
 use Rattle.ei_program.proofs.Behind.{get_behind}
 use Rattle.ei_program.proofs.gap.skipped.Goals.{then-inside, else-inside+then-byte-eq37, else-inside+else-byte-eq37+else-not-is_blank}
 use Rattle.ei_program.proofs.gap.skipped.Goals as goal

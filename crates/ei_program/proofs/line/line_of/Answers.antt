@@ -1,6 +1,6 @@
 use Rattle.std.specs.Prelude.{IfOk, codes, decimal, Vec}
 use Rattle.std.specs.declared.alloc.Global.{Global}
-use Rattle.std.proofs.Common.{rules, ◌≡◌, ◌++◌, ℕ, Result, Ok, Err, inr, sym, subst}
+use Rattle.std.proofs.Common.{rules, ◌++◌, ℕ, Result, Ok, Err, inr, subst}
 use Rattle.symbol_table.specs.Reading.{read}
 use Rattle.orthogonal_laws.specs.Run.{IsLiveEnd}
 use Rattle.ei_program.specs.Definitions.{Definitions, definitions_of}

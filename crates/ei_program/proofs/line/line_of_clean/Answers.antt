@@ -1,6 +1,4 @@
-use Rattle.std.specs.Prelude.{IfOk, Vec}
-use Rattle.std.specs.declared.alloc.Global.{Global}
-use Rattle.std.proofs.Common.{rules, ◌≡◌, ◌<◌, ◌≤◌, ℕ, List, Result, Ok, Err, subst, sym, ◌∙◌, arith}
+use Rattle.std.proofs.Common.{rules, ◌<◌, ◌≤◌, arith}
 use Rattle.eq_base.specs.Tree.{size}
 use Rattle.eq_base.proofs.Numbers.{has_node}
 use Rattle.eq_base.proofs.Trees.{size-map_heads}

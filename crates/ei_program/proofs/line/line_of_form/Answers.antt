@@ -1,10 +1,6 @@
-use Rattle.std.specs.Prelude.{IfOk, Vec}
-use Rattle.std.specs.declared.alloc.Global.{Global}
-use Rattle.std.proofs.Common.{rules, ◌≡◌, ◌<◌, ◌≤◌, ℕ, List, Result, Ok, Err, subst, sym, ◌∙◌, arith}
-use Rattle.eq_base.specs.Tree.{size}
-use Rattle.eq_base.proofs.Numbers.{has_node}
+use Rattle.std.proofs.Common.{◌<◌, subst}
 use Rattle.eq_base.proofs.Trees.{size-map_heads}
-use Rattle.symbol_table.specs.Reading.{read, read_head}
+use Rattle.symbol_table.specs.Reading.{read_head}
 use Rattle.ei_program.proofs.Made.{made}
 use Rattle.ei_program.proofs.Answers.{tells_past}
 use Rattle.ei_program.proofs.line.line_of_form.Goals as goal

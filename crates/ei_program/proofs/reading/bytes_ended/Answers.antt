@@ -1,4 +1,4 @@
-use Rattle.std.proofs.Common.{◌-◌, length, drop, take, sym, subst, length-drop}
+use Rattle.std.proofs.Common.{◌-◌, length, drop, take, sym, length-drop}
 use Rattle.ei_program.proofs.Lengths.{front_whole}
 use Rattle.ei_program.proofs.Newlines.{ended_by_newline}
 use Rattle.ei_program.proofs.reading.bytes_ended.Goals as goal

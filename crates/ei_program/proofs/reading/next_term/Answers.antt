@@ -1,4 +1,4 @@
-use Rattle.std.proofs.Common.{◌≡◌, ap, subst}
+use Rattle.std.proofs.Common.{subst}
 use Rattle.std.proofs.lemmas.Result.{IfOk-weaker}
 use Rattle.symbol_table.specs.Table.{names_of}
 use Rattle.ei_program.specs.Reading.{Goes, SkipsTo, IsThing, ComesNext}

@@ -1,10 +1,7 @@
-use Rattle.std.proofs.Common.{◌≡◌, ℕ, ◌+◌, ◌<◌, ◌≤◌, ◌^◌, arith, Ok, Err, refl, sym, ◌∙◌, ap, subst, Result, Fits, w64}
-use Rattle.std.specs.Prelude.{Option}
-use Rattle.symbol_table.specs.Table.{Keeps, names_of}
+use Rattle.std.proofs.Common.{ℕ, ◌+◌, ◌≤◌, ◌^◌, arith, Ok, Err, sym, ◌∙◌, ap, subst, Fits, w64}
+use Rattle.symbol_table.specs.Table.{names_of}
 use Rattle.symbol_table.specs.Reading.{read}
 use Rattle.symbol_table.proofs.Keeping.{keeps_trans}
-use Rattle.term_lex.specs.declared.fault.Fault.{Fault}
-use Rattle.written_terms.specs.declared.error.ReadError.{ReadError}
 use Rattle.written_terms.specs.Answering.{IfRefused}
 use Rattle.term_input.specs.Streams.{Held}
 use Rattle.term_input.specs.TermReading.{ReadsOne}
@@ -13,7 +10,6 @@ use Rattle.ei_program.specs.declared.reading.Next.TheVariants as nexts
 use Rattle.ei_program.specs.Reading.{Goes, IsThing, window_of}
 use Rattle.ei_program.proofs.Taken.{counted_then, goes_then}
 use Rattle.ei_program.proofs.Counting.{farther_less}
-use Rattle.ei_program.proofs.Skipping.{given}
 use Rattle.ei_program.proofs.Things.{reads_there, len_fits, term_taken, term_read, end_read}
 use Rattle.ei_program.proofs.reading.next_thing.Goals as goal
 

@@ -1,4 +1,4 @@
-use Rattle.std.proofs.Common.{◌≡◌, ℕ, List}
+use Rattle.std.proofs.Common.{◌≡◌}
 use Rattle.symbol_table.specs.Table.{Keeps}
 use Rattle.ei_program.specs.Reading.{Goes, IsCounted}
 use Rattle.ei_program.proofs.Counting.{to_take}

@@ -1,7 +1,7 @@
 use Rattle.std.specs.Prelude.{nat_lt}
-use Rattle.std.proofs.Common.{◌≡◌, ◌<◌, ◌≤◌, ℕ, ◌+◌, Bool, false, refl, sym, ◌∙◌, ap, subst, arith, length}
+use Rattle.std.proofs.Common.{◌≡◌, ◌<◌, ◌≤◌, ℕ, ◌+◌, false, refl, sym, ◌∙◌, ap, subst, arith, length}
 use Rattle.term_input.specs.Streams.{Held, MayTake}
-use Rattle.ei_program.specs.Reading.{Goes, SkipsTo, IsCounted}
+use Rattle.ei_program.specs.Reading.{Goes, SkipsTo}
 use Rattle.ei_program.proofs.Taken.{counted_then}
 use Rattle.ei_program.proofs.Counting.{to_take, counted_take, counted_same, takes_less}
 use Rattle.ei_program.proofs.Lengths.{le_then, not_below}

@@ -1,4 +1,4 @@
-use Rattle.std.proofs.Common.{◌≡◌, ◌≤◌, ℕ, List, length, take}
+use Rattle.std.proofs.Common.{◌≡◌, ◌≤◌, length, take}
 use Rattle.ei_program.specs.Reading.{Goes, IsCounted}
 use Rattle.ei_program.proofs.Skipping.{AreSkipped}
 use Rattle.ei_program.proofs.Counting.{to_take}

@@ -1,4 +1,4 @@
-use Rattle.std.proofs.Common.{◌≡◌, ◌∙◌}
+use Rattle.std.proofs.Common.{◌∙◌}
 use Rattle.ei_program.proofs.Taken.{counted_then}
 use Rattle.ei_program.proofs.Counting.{counted_take, takes_less}
 use Rattle.ei_program.proofs.Things.{farther, gone_on}

@@ -1,4 +1,4 @@
-use Rattle.std.proofs.Common.{◌≡◌, ◌≤◌, ℕ, List, length}
+use Rattle.std.proofs.Common.{◌≡◌, ◌≤◌, length}
 use Rattle.term_input.specs.Streams.{MayTake}
 use Rattle.ei_program.specs.Reading.{Goes, IsCounted}
 use Rattle.ei_program.proofs.Counting.{to_take}

@@ -1,6 +1,5 @@
 use Rattle.std.proofs.Common.{ℕ, List, [], None, Some, map, string_bytes, option_map, ◌∙◌, subst}
 use Rattle.eq_ports.proofs.Known.{appends_none}
-use Rattle.command_line.specs.declared.task.Task.{Task}
 use Rattle.command_line.specs.Asked.{Asks}
 use Rattle.ei_program.specs.declared.settings.Settings.{Settings}
 use Rattle.ei_program.specs.Definitions.{definitions_of}
