@@ -9,7 +9,7 @@ use Rattle.term_lex.specs.declared.fault.FaultKind.TheVariants.{NotIncluded, Fil
 use Rattle.term_lex.specs.declared.fault.FaultKind.TheVariants.{UnknownEquationClass, LeftNotApplication}
 use Rattle.term_lex.specs.declared.fault.FaultKind.TheVariants.{VariableTwice, QualifiedUnknown, SideLong}
 use Rattle.term_lex.specs.declared.fault.FaultKind.TheVariants.{SchemaNeeds, QualifiedTwice, ExpansionPast}
-use Rattle.term_lex.specs.declared.fault.FaultKind.TheVariants.{QualifierCircle, ClassesPast, MembersPast, NotYet}
+use Rattle.term_lex.specs.declared.fault.FaultKind.TheVariants.{QualifierCircle, ClassesPast, MembersPast}
 
 -- the number of a fault
 abbrev pub fault_number : FaultKind → ℕ
@@ -43,7 +43,6 @@ fault_number ExpansionPast = 40
 fault_number QualifierCircle = 41
 fault_number ClassesPast = 42
 fault_number MembersPast = 43
-fault_number NotYet = 50
 
 -- the name of a fault
 abbrev pub fault_word : FaultKind → List ℕ
@@ -77,4 +76,3 @@ fault_word ExpansionPast = codes "ExpansionPast"
 fault_word QualifierCircle = codes "QualifierCircle"
 fault_word ClassesPast = codes "ClassesPast"
 fault_word MembersPast = codes "MembersPast"
-fault_word NotYet = codes "NotYet"

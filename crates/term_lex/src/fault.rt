@@ -75,8 +75,6 @@ pub enum FaultKind {
     ClassesPast,
     /// The classes of the file list more than 4,096 members together.
     MembersPast,
-    /// The file uses a part of the language that this version does not take.
-    NotYet,
 }
 
 impl FaultKind {
@@ -115,7 +113,6 @@ impl FaultKind {
             FaultKind::QualifierCircle => 41,
             FaultKind::ClassesPast => 42,
             FaultKind::MembersPast => 43,
-            FaultKind::NotYet => 50,
         }
     }
 
@@ -154,7 +151,6 @@ impl FaultKind {
             FaultKind::QualifierCircle => "QualifierCircle",
             FaultKind::ClassesPast => "ClassesPast",
             FaultKind::MembersPast => "MembersPast",
-            FaultKind::NotYet => "NotYet",
         }
     }
 }

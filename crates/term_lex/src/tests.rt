@@ -146,7 +146,6 @@ fn numbers_and_words(rt: HostRuntime) {
         (FaultKind::QualifierCircle, 41, "QualifierCircle"),
         (FaultKind::ClassesPast, 42, "ClassesPast"),
         (FaultKind::MembersPast, 43, "MembersPast"),
-        (FaultKind::NotYet, 50, "NotYet"),
     ];
     for (kind, number, word) in cases {
         assert!(rt; kind.number() == number);
