@@ -51,7 +51,7 @@ module _ {H : Type 0} (system : System H) where
   empty_developments (more d ds) e = absurd (cc)
 
   -- a constant that is no redex develops to itself, with no weight
-  constant_still : {t u : Tree H} {n : ℕ} (h : H) → t ≡ node h empty → (IsRedex system (node h empty) → ⊥) → Development system t u n → (u ≡ t) × (n ≡ 0)
+  pub constant_still : {t u : Tree H} {n : ℕ} (h : H) → t ≡ node h empty → (IsRedex system (node h empty) → ⊥) → Development system t u n → (u ≡ t) × (n ≡ 0)
   constant_still h e stuck (unmarked {h = g} {ts = ts} ds) =
       let x = empty_developments ds (let z : ts ≡ empty = cc in z) in
       (ap (λ z. node g z) x.0 ∙ ap (λ z. node g z) (let z : empty ≡ ts = cc in z), x.1)

@@ -163,7 +163,7 @@ module _ {H : Type 0} (system : System H) (w : IsWellFormedSystem system) (o : I
     develop-to (marked {t = node h args} rule σ τ v listed applied respects ds gives) d' =
         to_marked rule σ τ v listed applied respects ds gives (λ x rest vs ms d. develop-to (ds x) d) d'
 
-    develop_all-to : {ts us : Forest H} {n : ℕ} (ds : Developments system ts us n) → AllTo (compiled system w) ts us n (λ i q. marks_in ds i q)
+    pub develop_all-to : {ts us : Forest H} {n : ℕ} (ds : Developments system ts us n) → AllTo (compiled system w) ts us n (λ i q. marks_in ds i q)
     develop_all-to none = record { weights = []; develops = nil; here = λ i q. refl; sums = refl }
     develop_all-to (more {m = m} d ds) =
         let a = develop_all-to ds in

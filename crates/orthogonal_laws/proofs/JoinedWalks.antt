@@ -22,7 +22,7 @@ module _ {H : Type 0} where
   apart-beside beside_stop_left = beside_stop_left
   apart-beside beside_stop_right = beside_stop_right
 
-  apart-run : (ts : Forest H) {a b : Matcher H} → Apart a b → Apart (run a ts) (run b ts)
+  pub apart-run : (ts : Forest H) {a b : Matcher H} → Apart a b → Apart (run a ts) (run b ts)
   apart-run empty (beside_read x) = beside_stop_left
   apart-run empty (beside_skip x) = beside_stop_left
   apart-run empty (beside_end x) = x

@@ -163,7 +163,7 @@ module _ {H : Type 0} (system : System H) (w : IsWellFormedSystem system) (o : I
       }
 
   -- the rules that fit at a position fit where its arguments have moved on
-  fits_moved : (t u : Tree H) (q : Position) (h : H) (args args' : Forest H) → subtree_at t q ≡ Some (node h args) → subtree_at u q ≡ Some (node h args') →
+  pub fits_moved : (t u : Tree H) (q : Position) (h : H) (args args' : Forest H) → subtree_at t q ≡ Some (node h args) → subtree_at u q ≡ Some (node h args') →
       ((rule : Compiled H) → Contains (compiled system w) rule → run (rule_tree rule (h, count args')) args' ≡ run (rule_tree rule (h, count args)) args) → (number : ℕ) → FitsAt system t q number → FitsAt system u q number
   fits_moved t u q h args args' there there' same number f =
       let regular = orthogonal-regular system w o in

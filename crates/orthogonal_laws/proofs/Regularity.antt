@@ -24,7 +24,7 @@ one_in t = record { part = t.part; stands = t.stands; tested = t.tested }
 
 module _ {H : Type 0} (system : System H) (w : IsWellFormedSystem system) (o : IsOrthogonal system) where
   -- trees that clash first
-  trees_clash : (p r : Tree (PatternCell H)) → IsPattern p → IsPattern r → ClashFirst system.in_class p r → Clash (left_tests system w p) (left_tests system w r)
+  pub trees_clash : (p r : Tree (PatternCell H)) → IsPattern p → IsPattern r → ClashFirst system.in_class p r → Clash (left_tests system w p) (left_tests system w r)
   trees_clash p r a b c =
       clash_first w.same w.decides system.in_class (grow p empty) (grow r empty) (a, tt) (b, tt) 0 c.at
       (record { one = in_one c.clashes.one; other = in_one c.clashes.other; clash = c.clashes.clash })
@@ -36,7 +36,7 @@ module _ {H : Type 0} (system : System H) (w : IsWellFormedSystem system) (o : I
       before_same (suc j) q (inl less) = absurd (omega arith)
       before_same (suc j) q (inr same) = absurd (let z = same.0 in omega (arith, z))
 
-  trees_same : (p r : Tree (PatternCell H)) → IsPattern p → IsPattern r → TestSame p r → Alike (left_tests system w p) (left_tests system w r) ⊎ Clash (left_tests system w p) (left_tests system w r)
+  pub trees_same : (p r : Tree (PatternCell H)) → IsPattern p → IsPattern r → TestSame p r → Alike (left_tests system w p) (left_tests system w r) ⊎ Clash (left_tests system w p) (left_tests system w r)
   trees_same p r a b s = compare w.same w.decides system.in_class (grow p empty) (grow r empty) refl (a, tt) (b, tt) (λ i q. same_in i q)
     where
       same_in : (i : ℕ) (q : Position) → TestedIn (grow p empty) i q ↔ TestedIn (grow r empty) i q
