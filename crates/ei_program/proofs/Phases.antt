@@ -1,5 +1,5 @@
 -- Phases of which each comes to one thing at most come to one thing at most together.
-use Rattle.std.proofs.Common.{◌≡◌, Result, Ok, Err, inl, inr, refl, sym, subst}
+use Rattle.std.proofs.Common.{◌≡◌, Result, Ok, Err, inl, inr, sym, subst}
 use Rattle.ei_program.specs.Phases.{HasOne, Then}
 
 module _ {E B C : Type 0} (First : Result B E → Type 0) (Second : B → Result C E → Type 0) where

@@ -112,9 +112,27 @@ fn expect(rt: &impl Abort, alloc: Global, row: &Row<'_>) -> Result<(), AllocErro
         &mut output,
         &mut errors,
     );
-    assert_eq!(rt; status.number(), row.status, "at {} {}", row.words, row.input);
-    assert_eq!(rt; output.written(), row.output.as_bytes(), "at {} {}", row.file, row.input);
-    assert_eq!(rt; errors.written(), row.errors.as_bytes(), "at {} {}", row.file, row.input);
+    assert_eq!(rt;
+        status.number(),
+        row.status,
+        "at {} {}",
+        row.words,
+        row.input
+    );
+    assert_eq!(rt;
+        output.written(),
+        row.output.as_bytes(),
+        "at {} {}",
+        row.file,
+        row.input
+    );
+    assert_eq!(rt;
+        errors.written(),
+        row.errors.as_bytes(),
+        "at {} {}",
+        row.file,
+        row.input
+    );
     Ok(())
 }
 
@@ -124,13 +142,21 @@ fn answers(rt: HostRuntime) -> Result<(), Fail> {
         (PEANO, "plus(s(s(z)), s(z)).\n", "s(s(s(z)))\n"),
         (PEANO, "", ""),
         (PEANO, "% nothing", ""),
-        (PEANO, "% one. z.\nz.s(z) .% two\n s(s(z)).", "z\ns(z)\ns(s(z))\n"),
+        (
+            PEANO,
+            "% one. z.\nz.s(z) .% two\n s(s(z)).",
+            "z\ns(z)\ns(s(z))\n",
+        ),
         (LAZY, "car(cons(a, loop)).", "a\n"),
         (COMBINATORS, "AP(AP(AP(S, K), K), q).", "q\n"),
         (EITHER, "f(s(a)). f(b).", "g(s(a))\nf(b)\n"),
         (APART_CLASSES, "f(b). f(c). f(f(a)).", "a\nc\na\n"),
         (SAME_RIGHT_SIDES, "f(b).", "b\n"),
-        (ARITHMETIC, "fst(1, add(170141183460469231731687303715884105727, 1)).", "1\n"),
+        (
+            ARITHMETIC,
+            "fst(1, add(170141183460469231731687303715884105727, 1)).",
+            "1\n",
+        ),
         (
             ARITHMETIC,
             "divide(5, 0). modulo(-7, 2). divide(-7, 2).",
@@ -159,10 +185,34 @@ fn budgets_and_sizes(rt: HostRuntime) -> Result<(), Fail> {
     let doubled = "p(p(p(z, z), p(z, z)), p(p(z, z), p(z, z)))\n";
     for (words, file, input, status, output) in [
         ("E", LAZY, "loop.", 3, "? spent 1000000\n"),
-        ("--replacements 2 E", DEMANDED_ARGUMENT, "f(loop, b).", 0, "c\n"),
-        ("--replacements=3 E", DEMANDED_ARGUMENT, "loop. f(loop, b).", 3, "? spent 3\nc\n"),
-        ("--replacements=0 E", DEMANDED_ARGUMENT, "a. b.", 3, "a\n? spent 0\n"),
-        ("--replacements=14 E", SHARING, "d(d(d(w))).", 3, "? spent 14\n"),
+        (
+            "--replacements 2 E",
+            DEMANDED_ARGUMENT,
+            "f(loop, b).",
+            0,
+            "c\n",
+        ),
+        (
+            "--replacements=3 E",
+            DEMANDED_ARGUMENT,
+            "loop. f(loop, b).",
+            3,
+            "? spent 3\nc\n",
+        ),
+        (
+            "--replacements=0 E",
+            DEMANDED_ARGUMENT,
+            "a. b.",
+            3,
+            "a\n? spent 0\n",
+        ),
+        (
+            "--replacements=14 E",
+            SHARING,
+            "d(d(d(w))).",
+            3,
+            "? spent 14\n",
+        ),
         ("--replacements=0015 E", SHARING, "d(d(d(w))).", 0, doubled),
         ("--most=7 E", SHARING, "d(d(d(w))).", 3, "? large\n"),
         ("--most=14 E", SHARING, "d(d(d(w))).", 3, "? large\n"),
@@ -210,8 +260,16 @@ fn refused_terms(rt: HostRuntime) -> Result<(), Fail> {
         ("plus(z).", "", "ei: term refused: WrongArity at byte 0\n"),
         ("q.", "", "ei: term refused: Unknown at byte 0\n"),
         ("z. \"ab", "z\n", "ei: term refused: OpenString at byte 3\n"),
-        ("plus(z, z). plus(z", "z\n", "ei: term refused: Unended at byte 18\n"),
-        ("z. s(z). plus(z,, z). z.", "z\ns(z)\n", "ei: term refused: Expected at byte 16\n"),
+        (
+            "plus(z, z). plus(z",
+            "z\n",
+            "ei: term refused: Unended at byte 18\n",
+        ),
+        (
+            "z. s(z). plus(z,, z). z.",
+            "z\ns(z)\n",
+            "ei: term refused: Expected at byte 16\n",
+        ),
     ] {
         let row = Row {
             input,
@@ -238,7 +296,10 @@ fn refused_files(rt: HostRuntime) -> Result<(), Fail> {
             "Symbols f: 1; s: 1; a: 0. For all x: f(x) = a where x is either s(x) end or end where.",
             "ei: equations refused: QualifierCircle at byte 52\n",
         ),
-        (MANY_CHOICES, "ei: equations refused: ExpansionPast at byte 76\n"),
+        (
+            MANY_CHOICES,
+            "ei: equations refused: ExpansionPast at byte 76\n",
+        ),
         (
             "Symbols f: 1; a: 0. Classes low: a, b. For all: .",
             "ei: equations refused: Unknown at byte 36\n",
@@ -266,7 +327,13 @@ fn lists(rt: HostRuntime) -> Result<(), Fail> {
             "(1 2 3 . 4)\n(1)\n()\n",
             "",
         ),
-        (APPEND, "( . 1).", 6, "", "ei: term refused: DotPlace at byte 2\n"),
+        (
+            APPEND,
+            "( . 1).",
+            6,
+            "",
+            "ei: term refused: DotPlace at byte 2\n",
+        ),
         (
             "Symbols a: 0. For all: .",
             "a. ().",
@@ -412,8 +479,22 @@ fn failing_reads(rt: HostRuntime) -> Result<(), Fail> {
         ("E T", (Port::Files, 6), "", 7, "s(s(z))\nz\n", unread),
         ("E", (Port::Input, 2), "z.", 7, "z\n", unread),
         ("E", (Port::Input, 3), "z.", 0, "z\n", ""),
-        ("E", (Port::Input, 2), "plus(z, z). plus(z, z).", 7, "z\n", unread),
-        ("E", (Port::Input, 3), "z. z. s(z). z. q. s(z).", 7, "z\nz\ns(z)\nz\n", unread),
+        (
+            "E",
+            (Port::Input, 2),
+            "plus(z, z). plus(z, z).",
+            7,
+            "z\n",
+            unread,
+        ),
+        (
+            "E",
+            (Port::Input, 3),
+            "z. z. s(z). z. q. s(z).",
+            7,
+            "z\nz\ns(z)\nz\n",
+            unread,
+        ),
     ] {
         let row = Row {
             words,
