@@ -1,35 +1,29 @@
 -- No reachable item set of an orthogonal system is mixed.
-use Rattle.std.proofs.Common.{◌≡◌, ℕ, zero, suc, ◌+◌, ◌<◌, ◌≤◌, List, [], ◌∷◌, refl, sym, ◌∙◌, ap, subst, arith, ⊎_elim, ◌⊎◌, inl, inr}
-use Rattle.std.specs.Prelude.{IsTrue, ◌↔◌, ◌≢◌, Contains, Some, slice_get}
+use Rattle.std.proofs.Common.{◌≡◌, ℕ, suc, ◌+◌, ◌<◌, ◌≤◌, List, [], refl, sym, ◌∙◌, ap, subst, arith, ⊎_elim, ◌⊎◌, inl, inr}
+use Rattle.std.specs.Prelude.{IsTrue, ◌≢◌, Contains, Some, slice_get}
 use Rattle.std.proofs.lemmas.Bool.{cases_lt}
-use Rattle.eq_base.specs.Tree.{Tree, Forest, node, empty, grow, head_of, args_of, size, nth_subtree, nth_position, Position, number, IsBefore}
+use Rattle.eq_base.specs.Tree.{Tree, Forest, node, empty, grow, head_of, args_of, size, nth_subtree, nth_position, number}
 use Rattle.eq_base.specs.Pattern.{PatternCell, fixed, variable, restricted, IsTested, Meets}
-use Rattle.eq_base.specs.Testing.{IsTestedAt, IsPattern}
+use Rattle.eq_base.specs.Testing.{IsTestedAt}
 use Rattle.eq_base.specs.Rewriting.{Rule, System}
 use Rattle.eq_base.proofs.Scans.{forest_from, forest_from-start}
 use Rattle.eq_base.proofs.Positions.{subtree_at-nth_position}
 use Rattle.eq_base.proofs.Replacing.{number-nth_position}
 use Rattle.regularity.specs.Arities.{HasArities}
 use Rattle.regularity.proofs.Listed.{nth_subtree-zero}
-use Rattle.orthogonal_laws.specs.Orthogonal.{IsHead, TestSame, ClashFirst, IsWellFormedSystem, IsOrthogonal}
+use Rattle.orthogonal_laws.specs.Orthogonal.{IsHead, ClashFirst, IsWellFormedSystem, IsOrthogonal}
 use Rattle.orthogonal_laws.proofs.Members.{in-contains, get-in}
 use Rattle.orthogonal_laws.proofs.LeftSides as tests_of_left_sides
 use Rattle.orthogonal_laws.proofs.LeftSides.{Alike}
 use Rattle.orthogonal_laws.proofs.Translation.{tests}
-use Rattle.orthogonal_laws.proofs.Comparing.{alike_itself, TestedIn, nothing_in, compare, clash_first}
-use Rattle.match_laws.specs.Items.{ItemSet}
+use Rattle.orthogonal_laws.proofs.Comparing.{alike_itself}
+use Rattle.orthogonal_laws.proofs.Regularity.{trees_clash, trees_same}
+use Rattle.match_laws.specs.Items.{ItemSet, IsMet}
 use Rattle.match_laws.specs.Reachable.{IsReachable, start, by_read, by_skip}
 use Rattle.match_laws.specs.Demand.{left_sides}
 use Rattle.match_laws.proofs.Passing.{AllUnmixed, Suits, cell-there, cell-is, part-arities, from-node, from-suc, not-root}
 use Rattle.match_laws.proofs.Demanding.{behind}
 use Rattle.match_laws.proofs.Beside.{Beside, end, is_pattern, alike-beside, clash-beside, turned, beside-met, beside-open, beside-mixed}
-
--- the one tree of a list
-abbrev in_one : {H : Type 0} {p : Tree (PatternCell H)} {q : Position} → IsTestedAt p q → TestedIn (grow p empty) 0 q
-in_one t = record { part = t.part; stands = t.stands; tested = t.tested }
-
-abbrev one_in : {H : Type 0} {p : Tree (PatternCell H)} {q : Position} → TestedIn (grow p empty) 0 q → IsTestedAt p q
-one_in t = record { part = t.part; stands = t.stands; tested = t.tested }
 
 head_tested : {H : Type 0} (c : PatternCell H) → IsHead c → IsTested c
 head_tested (fixed g) i = tt
@@ -67,29 +61,10 @@ module _ {H : Type 0} (system : System H) (w : IsWellFormedSystem system) (o : I
 
   -- ---- two trees
 
-  trees_clash : (p r : Tree (PatternCell H)) → IsPattern p → IsPattern r → ClashFirst system.in_class p r → tests_of_left_sides.Clash (tests_in (grow p empty)) (tests_in (grow r empty))
-  trees_clash p r a b c =
-      clash_first w.same w.decides system.in_class (grow p empty) (grow r empty) (a, tt) (b, tt) 0 c.at
-      (record { one = in_one c.clashes.one; other = in_one c.clashes.other; clash = c.clashes.clash })
-      (λ j q before. before_same j q before)
-    where
-      before_same : (j : ℕ) (q : Position) → IsBefore (j ∷ q) (0 ∷ c.at) → TestedIn (grow p empty) j q ↔ TestedIn (grow r empty) j q
-      before_same zero q (inl less) = absurd (omega arith)
-      before_same zero q (inr same) = (λ t. in_one ((c.before q same.1).0 (one_in t)), λ t. in_one ((c.before q same.1).1 (one_in t)))
-      before_same (suc j) q (inl less) = absurd (omega arith)
-      before_same (suc j) q (inr same) = absurd (let z = same.0 in omega (arith, z))
-
-  trees_same : (p r : Tree (PatternCell H)) → IsPattern p → IsPattern r → TestSame p r → Alike (tests_in (grow p empty)) (tests_in (grow r empty)) ⊎ tests_of_left_sides.Clash (tests_in (grow p empty)) (tests_in (grow r empty))
-  trees_same p r a b s = compare w.same w.decides system.in_class (grow p empty) (grow r empty) refl (a, tt) (b, tt) (λ i q. same_in i q)
-    where
-      same_in : (i : ℕ) (q : Position) → TestedIn (grow p empty) i q ↔ TestedIn (grow r empty) i q
-      same_in zero q = (λ t. in_one ((s q).0 (one_in t)), λ t. in_one ((s q).1 (one_in t)))
-      same_in (suc i) q = (λ t. absurd (nothing_in {i = i} {q = q} (record { part = t.part; stands = t.stands; tested = t.tested })), λ t. absurd (nothing_in {i = i} {q = q} (record { part = t.part; stands = t.stands; tested = t.tested })))
-
   beside-clash : (p r : Tree (PatternCell H)) → HasArities arity p → HasArities arity r → ClashFirst system.in_class p r → (ps : Forest (PatternCell H)) → Beside system.in_class (grow p ps) (grow r empty)
   beside-clash p r a b c ps =
       clash-beside w.same w.decides system.in_class arity constants (grow p empty) (grow r empty) (a, tt) (b, tt)
-      (trees_clash p r (is_pattern w.same w.decides system.in_class arity constants p a) (is_pattern w.same w.decides system.in_class arity constants r b) c) ps empty
+      (trees_clash system w o p r (is_pattern w.same w.decides system.in_class arity constants p a) (is_pattern w.same w.decides system.in_class arity constants r b) c) ps empty
 
   beside-alike : (p r : Tree (PatternCell H)) → HasArities arity p → HasArities arity r → Alike (tests_in (grow p empty)) (tests_in (grow r empty)) ⊎ tests_of_left_sides.Clash (tests_in (grow p empty)) (tests_in (grow r empty)) → Beside system.in_class (grow p empty) (grow r empty)
   beside-alike p r a b (inl x) = alike-beside w.same w.decides system.in_class arity constants (grow p empty) (grow r empty) (a, tt) (b, tt) x empty empty end
@@ -102,7 +77,7 @@ module _ {H : Type 0} (system : System H) (w : IsWellFormedSystem system) (o : I
       let n = arities b (among system w arity arities constants j b l') in
       elim (o.roots i j a b less l l') [
         | inl c ↦ beside-clash a.left b.left m n c empty
-        | inr s ↦ beside-alike a.left b.left m n (trees_same a.left b.left (is_pattern w.same w.decides system.in_class arity constants a.left m) (is_pattern w.same w.decides system.in_class arity constants b.left n) s.0)
+        | inr s ↦ beside-alike a.left b.left m n (trees_same system w o a.left b.left (is_pattern w.same w.decides system.in_class arity constants a.left m) (is_pattern w.same w.decides system.in_class arity constants b.left n) s.0)
       ]
 
   roots-beside : (i j : ℕ) (a b : Rule H) → slice_get system.rules i ≡ Some a → slice_get system.rules j ≡ Some b → Beside system.in_class (grow a.left empty) (grow b.left empty)
@@ -147,31 +122,37 @@ module _ {H : Type 0} (system : System H) (w : IsWellFormedSystem system) (o : I
 
   -- ---- all reachable item sets
 
+  -- items that one head meets, one cell further, where those below the roots are beside each other
+  met-pair : (items : ItemSet) → ((e k : ℕ) (left other : Tree (PatternCell H)) → slice_get lefts_here e ≡ Some left → slice_get lefts_here k ≡ Some other → (c d : ℕ) → Contains items (e, c) → Contains items (k, d) → d ≤ c → Beside system.in_class (forest_from left c) (forest_from other d)) →
+      (h : H) (e k : ℕ) (left other : Tree (PatternCell H)) → slice_get lefts_here e ≡ Some left → slice_get lefts_here k ≡ Some other → (c d : ℕ) → IsMet system.in_class lefts_here items h e c → IsMet system.in_class lefts_here items h k d → d ≤ c → Beside system.in_class (forest_from left (suc c)) (forest_from other (suc d))
+  met-pair items pairs h e k left other l l' c d f g le =
+      let lt = cell-there system.in_class lefts_here arity own e left l c f.cell f.is_cell in
+      let lt' = cell-there system.in_class lefts_here arity own k other l' d g.cell g.is_cell in
+      let is = cell-is system.in_class lefts_here arity own e left l c f.cell f.is_cell in
+      let is' = cell-is system.in_class lefts_here arity own k other l' d g.cell g.is_cell in
+      let u = nth_subtree left c in
+      let v = nth_subtree other d in
+      let tested : IsTested (head_of u) = subst IsTested (sym is) f.tested in
+      let meets : Meets system.in_class (head_of u) h = subst (λ z. Meets system.in_class z h) (sym is) f.meets in
+      let meets' : Meets system.in_class (head_of v) h = subst (λ z. Meets system.in_class z h) (sym is') g.meets in
+      let here : Beside system.in_class (forest_from left c) (forest_from other d) =
+      ⊎_elim
+      (λ more. pairs e k left other l l' c d
+      (not-root system.in_class lefts_here arity own e left l items c (omega (arith, le)) f.held)
+      (not-root system.in_class lefts_here arity own k other l' items d more g.held)
+      le)
+      (λ none. let z : 0 ≡ d = omega arith in subst (λ b. Beside system.in_class (forest_from left c) (forest_from other b)) z (begins e k left other l l' c lt tested))
+      (cases_lt 0 d) in
+      let opened = subst (λ ps. Beside system.in_class ps (grow v (forest_from other (d + size v)))) (from-node system.in_class lefts_here arity own e left l c lt) (subst (λ qs. Beside system.in_class (forest_from left c) qs) (from-node system.in_class lefts_here arity own k other l' d lt') here) in
+      let further = beside-met system.in_class u v (forest_from left (c + size u)) (forest_from other (d + size v)) h opened tested meets meets' in
+      rw (from-suc system.in_class lefts_here arity own e left l c lt, from-suc system.in_class lefts_here arity own k other l' d lt') further
+
   pub paired : {items : ItemSet} → IsReachable system.in_class lefts_here items → (e k : ℕ) (left other : Tree (PatternCell H)) → slice_get lefts_here e ≡ Some left → slice_get lefts_here k ≡ Some other → (c d : ℕ) → Contains items (e, c) → Contains items (k, d) → d ≤ c → Beside system.in_class (forest_from left c) (forest_from other d)
   paired start e k left other l l' c d x y le = absurd (omega (arith, x.1))
   paired (by_read {items = items} h r n) e k left other l l' c d x y le =
       let f = (n.exactly e c).0 x in
       let g = (n.exactly k d).0 y in
-      let lt = cell-there system.in_class lefts_here arity own e left l f.before f.this.cell f.this.is_cell in
-      let lt' = cell-there system.in_class lefts_here arity own k other l' g.before g.this.cell g.this.is_cell in
-      let is = cell-is system.in_class lefts_here arity own e left l f.before f.this.cell f.this.is_cell in
-      let is' = cell-is system.in_class lefts_here arity own k other l' g.before g.this.cell g.this.is_cell in
-      let u = nth_subtree left f.before in
-      let v = nth_subtree other g.before in
-      let tested : IsTested (head_of u) = subst IsTested (sym is) f.this.tested in
-      let meets : Meets system.in_class (head_of u) h = subst (λ z. Meets system.in_class z h) (sym is) f.this.meets in
-      let meets' : Meets system.in_class (head_of v) h = subst (λ z. Meets system.in_class z h) (sym is') g.this.meets in
-      let here : Beside system.in_class (forest_from left f.before) (forest_from other g.before) =
-      ⊎_elim
-      (λ more. paired r e k left other l l' f.before g.before
-      (not-root system.in_class lefts_here arity own e left l items f.before (omega (arith, f.further, g.further)) f.this.held)
-      (not-root system.in_class lefts_here arity own k other l' items g.before more g.this.held)
-      (omega (arith, f.further, g.further)))
-      (λ none. let z : 0 ≡ g.before = omega arith in subst (λ b. Beside system.in_class (forest_from left f.before) (forest_from other b)) z (begins e k left other l l' f.before lt tested))
-      (cases_lt 0 g.before) in
-      let opened = subst (λ ps. Beside system.in_class ps (grow v (forest_from other (g.before + size v)))) (from-node system.in_class lefts_here arity own e left l f.before lt) (subst (λ qs. Beside system.in_class (forest_from left f.before) qs) (from-node system.in_class lefts_here arity own k other l' g.before lt') here) in
-      let further = beside-met system.in_class u v (forest_from left (f.before + size u)) (forest_from other (g.before + size v)) h opened tested meets meets' in
-      rw (f.further, g.further, from-suc system.in_class lefts_here arity own e left l f.before lt, from-suc system.in_class lefts_here arity own k other l' g.before lt') further
+      rw (f.further, g.further) (met-pair items (paired r) h e k left other l l' f.before g.before f.this g.this (omega (arith, f.further, g.further, le)))
   paired (by_skip {items = items} r n) e k left other l l' c d x y le =
       let f = (n.exactly e c).0 x in
       let g = (n.exactly k d).0 y in
@@ -199,6 +180,14 @@ module _ {H : Type 0} (system : System H) (w : IsWellFormedSystem system) (o : I
       let none = plain_args arity u (part-arities system.in_class lefts_here arity own e left l f.before lt) plain in
       let none' = plain_args arity v (part-arities system.in_class lefts_here arity own k other l' g.before lt') plain' in
       rw (f.further, g.further, from-suc system.in_class lefts_here arity own e left l f.before lt, from-suc system.in_class lefts_here arity own k other l' g.before lt', none, none') further
+
+  -- two items of a reachable set that one head meets, in either order
+  pub met_beside : {items : ItemSet} → IsReachable system.in_class lefts_here items → (h : H) (e k : ℕ) (left other : Tree (PatternCell H)) → slice_get lefts_here e ≡ Some left → slice_get lefts_here k ≡ Some other → (c d : ℕ) → IsMet system.in_class lefts_here items h e c → IsMet system.in_class lefts_here items h k d → Beside system.in_class (forest_from left (suc c)) (forest_from other (suc d))
+  met_beside {items} r h e k left other l l' c d x y =
+      ⊎_elim
+      (λ less. turned system.in_class (met-pair items (paired r) h k e other left l' l d c y x (omega arith)))
+      (λ le. met-pair items (paired r) h e k left other l l' c d x y (omega arith))
+      (cases_lt c d)
 
   pub all-unmixed : AllUnmixed system.in_class lefts_here
   all-unmixed items r e c k b more more' plain waiting =
