@@ -9,7 +9,7 @@ use std::test::Fail;
 use term_lex::Syntax;
 
 /// Expects this of the answering of terms by Peano's equations, where so many bytes of the input are read at most.
-fn expect_terms(
+pub fn expect_terms(
     rt: &impl Abort,
     alloc: Global,
     input_bytes: u32,
@@ -29,8 +29,8 @@ fn expect_terms(
         most: 1_000_000,
         input_bytes: u64::from(input_bytes),
     };
-    let mut out = sink(alloc, 0)?;
-    let mut err = sink(alloc, 0)?;
+    let mut out = sink(alloc, 4_194_304, 0)?;
+    let mut err = sink(alloc, 4096, 0)?;
     let ended = answer_terms(alloc, &mut ready, &settings, input, &mut out, &mut err);
     assert_eq!(rt; ended.number(), status);
     assert_eq!(rt; out.written(), output.as_bytes());

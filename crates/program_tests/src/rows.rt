@@ -14,7 +14,7 @@ use std::test::Fail;
 
 /// A port of a run.
 #[derive(Clone, Copy, PartialEq, Eq)]
-enum Port {
+pub enum Port {
     Files,
     Input,
     Output,
@@ -24,18 +24,26 @@ enum Port {
 /// What a run is given, with a file of definitions under the name `E` and one of terms under `T`; the port whose
 /// call of the number fails (0 for none), and what comes of it.
 #[derive(Clone, Copy)]
-struct Row<'a> {
-    words: &'a str,
-    file: &'a str,
-    input: &'a str,
-    fails: (Port, u64),
-    status: u8,
-    output: &'a str,
-    errors: &'a str,
+pub struct Row<'a> {
+    pub words: &'a str,
+    pub file: &'a str,
+    pub input: &'a str,
+    pub fails: (Port, u64),
+    pub status: u8,
+    pub output: &'a str,
+    pub errors: &'a str,
+}
+
+/// What a run came to.
+#[derive(Drop)]
+pub struct Ran {
+    pub status: u8,
+    pub output: MemorySink,
+    pub errors: MemorySink,
 }
 
 /// Peano's addition of two and one.
-const ADDITION: Row<'static> = Row {
+pub const ADDITION: Row<'static> = Row {
     words: "E",
     file: PEANO,
     input: "plus(s(s(z)), s(z)).\n",
@@ -82,10 +90,10 @@ pub fn source(alloc: Global, text: &str, fails: u64) -> Result<MemorySource, All
     Ok(MemorySource::new(bytes, 12, vec![in alloc; fails]?))
 }
 
-/// A sink that takes 7 bytes at once, of which a write fails.
-pub fn sink(alloc: Global, fails: u64) -> Result<MemorySink, AllocError> {
-    let room = Vec::with_capacity(alloc, 4096)?;
-    Ok(MemorySink::new(room, 7, vec![in alloc; fails]?))
+/// A sink that takes a byte at once, of which a write fails.
+pub fn sink(alloc: Global, room: usize, fails: u64) -> Result<MemorySink, AllocError> {
+    let room = Vec::with_capacity(alloc, room)?;
+    Ok(MemorySink::new(room, 1, vec![in alloc; fails]?))
 }
 
 /// The words that stand between the blanks of a text.
@@ -97,12 +105,12 @@ fn words_in(alloc: Global, text: &str) -> Result<Vec<String>, AllocError> {
     Ok(words)
 }
 
-/// Expects what the row says of the run.
-fn expect(rt: &impl Abort, alloc: Global, row: &Row<'_>) -> Result<(), AllocError> {
+/// Runs the program as the row says.
+pub fn run(alloc: Global, row: &Row<'_>) -> Result<Ran, AllocError> {
     let mut files = files(alloc, row.file, row.failing(Port::Files))?;
     let mut input = source(alloc, row.input, row.failing(Port::Input))?;
-    let mut output = sink(alloc, row.failing(Port::Output))?;
-    let mut errors = sink(alloc, row.failing(Port::Errors))?;
+    let mut output = sink(alloc, 4096, row.failing(Port::Output))?;
+    let mut errors = sink(alloc, 4096, row.failing(Port::Errors))?;
     let words = words_in(alloc, row.words)?;
     let status = ei(
         alloc,
@@ -112,26 +120,32 @@ fn expect(rt: &impl Abort, alloc: Global, row: &Row<'_>) -> Result<(), AllocErro
         &mut output,
         &mut errors,
     );
+    Ok(Ran {
+        status: status.number(),
+        output,
+        errors,
+    })
+}
+
+/// Expects what the row says of the run.
+pub fn expect(rt: &impl Abort, alloc: Global, row: &Row<'_>) -> Result<(), AllocError> {
+    let ran = run(alloc, row)?;
+    let Row {
+        words,
+        file,
+        input,
+        ..
+    } = *row;
+    assert_eq!(rt; ran.status, row.status, "at {words} {file} {input}");
     assert_eq!(rt;
-        status.number(),
-        row.status,
-        "at {} {}",
-        row.words,
-        row.input
-    );
-    assert_eq!(rt;
-        output.written(),
+        ran.output.written(),
         row.output.as_bytes(),
-        "at {} {}",
-        row.file,
-        row.input
+        "at {words} {file} {input}"
     );
     assert_eq!(rt;
-        errors.written(),
+        ran.errors.written(),
         row.errors.as_bytes(),
-        "at {} {}",
-        row.file,
-        row.input
+        "at {words} {file} {input}"
     );
     Ok(())
 }
@@ -471,34 +485,21 @@ fn command_lines(rt: HostRuntime) -> Result<(), Fail> {
 #[test]
 fn failing_reads(rt: HostRuntime) -> Result<(), Fail> {
     let unread = "ei: read failed\n";
-    for (words, fails, input, status, output, errors) in [
-        ("E", (Port::Files, 1), "z.", 7, "", unread),
-        ("E", (Port::Files, 2), "z.", 7, "", unread),
-        ("E", (Port::Files, 4), "z.", 0, "z\n", ""),
-        ("E T", (Port::Files, 4), "", 7, "", unread),
-        ("E T", (Port::Files, 6), "", 7, "s(s(z))\nz\n", unread),
-        ("E", (Port::Input, 2), "z.", 7, "z\n", unread),
-        ("E", (Port::Input, 3), "z.", 0, "z\n", ""),
-        (
-            "E",
-            (Port::Input, 2),
-            "plus(z, z). plus(z, z).",
-            7,
-            "z\n",
-            unread,
-        ),
-        (
-            "E",
-            (Port::Input, 3),
-            "z. z. s(z). z. q. s(z).",
-            7,
-            "z\nz\ns(z)\nz\n",
-            unread,
-        ),
+    for (words, fails, status, output, errors) in [
+        ("E", (Port::Files, 1), 7, "", unread),
+        ("E", (Port::Files, 2), 7, "", unread),
+        ("E", (Port::Files, 3), 7, "", unread),
+        ("E", (Port::Files, 4), 0, "z\nz\n", ""),
+        ("E T", (Port::Files, 4), 7, "", unread),
+        ("E T", (Port::Files, 6), 7, "s(s(z))\nz\n", unread),
+        ("E", (Port::Input, 1), 7, "", unread),
+        ("E", (Port::Input, 2), 7, "z\n", unread),
+        ("E", (Port::Input, 3), 7, "z\nz\n", unread),
+        ("E", (Port::Input, 4), 0, "z\nz\n", ""),
     ] {
         let row = Row {
             words,
-            input,
+            input: "plus(z, z). plus(z, z).",
             fails,
             status,
             output,
@@ -512,20 +513,23 @@ fn failing_reads(rt: HostRuntime) -> Result<(), Fail> {
 
 #[test]
 fn failing_writes(rt: HostRuntime) -> Result<(), Fail> {
-    for (fails, words, file, output, errors) in [
-        ((Port::Output, 1), "E", PEANO, "", ""),
-        ((Port::Output, 2), "E", PEANO, "s(s(s(z", ""),
-        ((Port::Output, 2), "--check E", PEANO, "accepte", ""),
-        ((Port::Errors, 1), "-E", PEANO, "", ""),
-        ((Port::Errors, 2), "E", TWICE, "", "ei: equ"),
+    for (words, file, fails, status, output) in [
+        ("E", PEANO, (Port::Output, 1), 8, ""),
+        ("E", PEANO, (Port::Output, 2), 8, "z"),
+        ("E", PEANO, (Port::Output, 3), 8, "z\n"),
+        ("E", PEANO, (Port::Output, 4), 8, "z\nz"),
+        ("E", PEANO, (Port::Output, 5), 0, "z\nz\n"),
+        ("--check E", PEANO, (Port::Output, 5), 8, "acce"),
+        ("E", TWICE, (Port::Errors, 1), 8, ""),
+        ("-E", PEANO, (Port::Errors, 1), 8, ""),
     ] {
         let row = Row {
             words,
             file,
+            input: "plus(z, z). plus(z, z).",
             fails,
-            status: 8,
+            status,
             output,
-            errors,
             ..ADDITION
         };
         expect(&rt, rt.alloc(), &row)?;
