@@ -1,6 +1,6 @@
 // Cut texts and deep terms.
 use crate::limits::expect_terms;
-use crate::rows::{ADDITION, Row, expect, run};
+use crate::rows::{ADDITION, Row, run};
 use crate::samples::PEANO;
 use eq_ports::MemorySource;
 use std::alloc::{AllocError, Global};
@@ -12,16 +12,15 @@ fn cut_terms(rt: HostRuntime) -> Result<(), Fail> {
     let mut input = String::new(alloc);
     for letter in "plus(s(s(z)), s(z))".chars() {
         input.push(letter)?;
-        let end = input.len();
-        let errors = format!(in alloc; "ei: term refused: Unended at byte {end}\n")?;
         let row = Row {
             input: &input,
-            status: 6,
-            output: "",
-            errors: &errors,
             ..ADDITION
         };
-        expect(&rt, alloc, &row)?;
+        let ran = run(alloc, &row)?;
+        let end = input.len();
+        let errors = format!(in alloc; "ei: term refused: Unended at byte {end}\n")?;
+        assert_eq!(rt; ran.status, 6, "at {input}");
+        assert_eq!(rt; ran.errors.written(), errors.as_bytes(), "at {input}");
     }
     Ok(())
 }
