@@ -3,7 +3,7 @@
 ghost use Rattle.std.specs.Prelude.{◌≡◌, ℕ, ◌<◌, List, Option, [], ◌++◌, Some, slice_get};
 ghost use Rattle.eq_base.specs.Tree.{Tree, Forest, node, empty, grow, Position};
 ghost use Rattle.eq_base.specs.Storing.{join};
-ghost use Rattle.eq_base.specs.Rewriting.{System, IsRedex, IsNormal};
+ghost use Rattle.eq_base.specs.Rewriting.{System, IsRedexBy, IsRedex, IsNormal};
 ghost use Rattle.eq_base.specs.Rules.{system_of};
 ghost use Rattle.eq_base.specs.declared.head.Head.{Head};
 ghost use Rattle.eq_base.specs.declared.rules.Op.{Op};
@@ -54,6 +54,18 @@ pub fn way_is_settled<H>()
         → Passes system inner before next → WantsNothing (left_sides system) next
         → AllAround (λ t. IsRedex system t → ⊥) frames (node h (join before behind))
         → AllAround (HasNoDemandedRedex system) frames (node h (join before behind)) }
+{}
+
+/// Where the first completed rule has no value, no node on the way has a demanded redex: the reading is over.
+pub fn no_value_settles<H>()
+    ensures { (system : System H) → IsLawful system → (arity : H → ℕ) → HasFixedArities system arity
+        → (frames : List (Frame H)) (items next : ItemSet) (h : H) (args : Forest H) (e height : ℕ)
+        → KeepArities arity (grow (plug frames (node h args)) empty) → ComesTo system frames items
+        → IsRead system.in_class (left_sides system) items h next
+        → IsFirstCompleted system.in_class (left_sides system) items h e height
+        → (found : FitsFirstAbove system frames (node h args) e height)
+        → (IsRedexBy system e (plug found.inner (node h args)) → ⊥)
+        → AllAround (HasNoDemandedRedex system) frames (node h args) }
 {}
 
 /// Where what stands before and behind a way develops, the reading comes with the same items to the node
