@@ -16,8 +16,8 @@ module _ {H : Type 0} (system : System H) where
         → Passes between ts next → Passes items (grow t ts) next
     passes_in : {items inner between next : ItemSet} {h : H} {args ts : Forest H} →
         WantsRead (left_sides system) items → IsRead system.in_class (left_sides system) items h inner
-            → Passes inner args between → (IsRedex system (node h args) → ⊥) → Passes between ts next
-            → Passes items (grow (node h args) ts) next
+        → Passes inner args between → (IsRedex system (node h args) → ⊥) → Passes between ts next
+        → Passes items (grow (node h args) ts) next
 
   -- the reading of the tree above comes with this item set to the node below these
   pub data ComesTo : List (Frame H) → ItemSet → Type 0 where

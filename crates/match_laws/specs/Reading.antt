@@ -40,8 +40,8 @@ module _ {H : Type 0} (in_class : Classes H) (lefts : List (Tree (PatternCell H)
     pub IsAfter : Tree H → ItemSet → ItemSet → Type 0
     IsAfter (node h ts) items next =
         (WantsSkip lefts items × IsSkip lefts items next)
-            ⊎ ((WantsSkip lefts items → ⊥) × ((inner : ItemSet) × IsRead in_class lefts items h inner
-            × AreAfter ts inner next))
+        ⊎ ((WantsSkip lefts items → ⊥) × ((inner : ItemSet) × IsRead in_class lefts items h inner
+        × AreAfter ts inner next))
 
     pub AreAfter : Forest H → ItemSet → ItemSet → Type 0
     AreAfter empty items next = items ≡ next

@@ -1,5 +1,6 @@
 -- The sizes of the trees of a store.
-use Rattle.std.specs.Prelude.{◌≡◌, ℕ, suc, ◌+◌, ◌<◌, ◌^◌, min, List, [], ◌∷◌, length, slice_index_or}
+use Rattle.std.specs.Prelude.{◌≡◌, ℕ, suc, ◌+◌, ◌<◌, ◌^◌, min, List, [], ◌∷◌, take, length, slice_index_or}
+use Rattle.std.specs.List.{AllByRecursion}
 use Rattle.eq_base.specs.Tree.{size}
 use Rattle.eq_base.specs.declared.head.Head as heads
 use Rattle.term_graph.specs.declared.content.Content.{Content}
@@ -29,3 +30,13 @@ pub record AreSizes (args : List ℕ) (nodes : List Content) (sizes : List ℕ) 
   pub long : length sizes ≡ length nodes
   pub right : (n : ℕ) → n < length nodes → (stored sizes n ≡ 0 → ⊥)
       → stored sizes n ≡ capped (size (node_tree args nodes n))
+
+-- a size is stored for each of these nodes
+abbrev pub AreKnown : List ℕ → List ℕ → Type 0
+AreKnown sizes ms = AllByRecursion (λ m. stored sizes m ≡ 0 → ⊥) ms
+
+-- no size is stored for the node at this place among these, and one is for each node before it
+pub record IsNextUnknown (sizes ms : List ℕ) (k : ℕ) : Type 0 where
+  pub there : k < length ms
+  pub unknown : stored sizes (slice_index_or ms k 0) ≡ 0
+  pub known : AreKnown sizes (take k ms)

@@ -1,5 +1,5 @@
 // The sizes of trees.
-ghost use Rattle.std.specs.Prelude.{◌≡◌, ◌<◌, ◌≤◌, ◌^◌, min, length, slice_index_or, MatchOption, IfOk, Contains};
+ghost use Rattle.std.specs.Prelude.{◌≡◌, ◌<◌, ◌≤◌, ◌^◌, min, length, slice_index_or, take, MatchOption, IfOk};
 ghost use Rattle.std.specs.List.{AllByRecursion};
 ghost use Rattle.eq_base.specs.Tree.{size};
 ghost use Rattle.term_graph.specs.declared.content.Content.TheVariants.{Symbol};
@@ -7,7 +7,7 @@ ghost use Rattle.term_graph.specs.Graph.{term_at};
 ghost use Rattle.term_graph.specs.Shapes.{references};
 ghost use Rattle.term_graph.specs.Contents.{shape_of, AreNodes, IsWithin};
 ghost use Rattle.term_graph.specs.Binding.{node_tree};
-ghost use Rattle.term_graph.specs.Sizes.{capped, stored, size_by};
+ghost use Rattle.term_graph.specs.Sizes.{capped, size_by, AreKnown, IsNextUnknown};
 
 use crate::content::Content;
 use crate::store::Store;
@@ -33,7 +33,14 @@ impl Store {
     }
 }
 
-// The size of a node's tree.
+// A node whose size waits for those of the nodes to which it leads: those before the next one are known.
+#[derive(Clone, Copy)]
+struct Waiting {
+    node: usize,
+    next: usize,
+}
+
+// The size of a node's tree. Each node is weighed once, and each argument is looked at twice at most.
 fn count(alloc: Global, nodes: &[Content], args: &[usize], node: usize) -> Result<u64, NoMemory>
     requires kept { AreNodes args.now nodes.now }
     requires there { node < length nodes.now }
@@ -42,12 +49,17 @@ fn count(alloc: Global, nodes: &[Content], args: &[usize], node: usize) -> Resul
     let mut sizes: Vec<u64> = Vec::new(alloc);
     sizes.resize(nodes.len(), 0)?;
     let mut waiting = Vec::new(alloc);
-    waiting.push(node)?;
-    while let Some(at) = waiting.pop() {
-        match first_unknown(args, nodes[at], &sizes) {
-            Some(other) => {
-                waiting.push(at)?;
-                waiting.push(other)?;
+    waiting.push(Waiting { node, next: 0 })?;
+    while let Some(last) = waiting.pop() {
+        let at = last.node;
+        match next_unknown(args, nodes[at], &sizes, last.next) {
+            Some(next) => {
+                let other = reference(args, nodes[at], next);
+                waiting.push(Waiting { node: at, next })?;
+                waiting.push(Waiting {
+                    node: other,
+                    next: 0,
+                })?;
             }
             None => sizes[at] = size_of_node(args, nodes[at], &sizes),
         }
@@ -78,17 +90,17 @@ fn reference(args: &[usize], content: Content, k: usize) -> usize
     }
 }
 
-// The first node to which a node leads and whose size is unknown.
-fn first_unknown(args: &[usize], content: Content, sizes: &[u64]) -> Option<usize>
+// Which of the nodes to which a node leads is the first whose size is unknown, where those before one are known.
+fn next_unknown(args: &[usize], content: Content, sizes: &[u64], from: usize) -> Option<usize>
     requires within { IsWithin (length args.now) content }
     requires there { AllByRecursion (λ m. m < length sizes.now) (references (shape_of args.now content)) }
-    ensures { MatchOption result (AllByRecursion (λ m. stored sizes.now m ≡ 0
-        → ⊥) (references (shape_of args.now content))) (λ m. Contains (references (shape_of args.now content)) m × (stored sizes.now m ≡ 0)) }
+    requires passed { AreKnown sizes.now (take from (references (shape_of args.now content))) }
+    ensures { MatchOption result (AreKnown sizes.now (references (shape_of args.now content)))
+        (IsNextUnknown sizes.now (references (shape_of args.now content))) }
 {
-    for k in 0..reference_count(args, content) {
-        let other = reference(args, content, k);
-        if sizes[other] == 0 {
-            return Some(other);
+    for k in from..reference_count(args, content) {
+        if sizes[reference(args, content, k)] == 0 {
+            return Some(k);
         }
     }
     None

@@ -36,6 +36,12 @@ For all x, y:
   g(b, c) = b.
 ";
 
+pub const PARALLEL_OR: &str = "Symbols or: 2; include truth_values.
+For all x:
+  or(true, x) = true;
+  or(x, true) = true.
+";
+
 pub const BROKEN: &str = "Symbols if: 3; g: 2; first: 1; pred: 1; succ: 1; h: 1; k: 1; c: 0;
   include integer_numerals.
 For all x, y:

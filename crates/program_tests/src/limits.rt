@@ -1,9 +1,7 @@
 // Limits on the bytes of an input and of a term.
-use super::samples::PEANO;
-use super::{files, sink, source};
-use crate::loading::load;
-use crate::settings::Settings;
-use crate::top_call::answer_terms;
+use crate::rows::{files, sink, source};
+use crate::samples::PEANO;
+use ei_program::{Settings, answer_terms, load};
 use eq_ports::MemorySource;
 use std::alloc::{AllocError, Global};
 use std::process::Abort;
@@ -11,7 +9,7 @@ use std::test::Fail;
 use term_lex::Syntax;
 
 /// Expects this of the answering of terms by Peano's equations, where so many bytes of the input are read at most.
-fn expect_terms(
+pub fn expect_terms(
     rt: &impl Abort,
     alloc: Global,
     input_bytes: u32,
@@ -20,7 +18,7 @@ fn expect_terms(
     output: &str,
     errors: &str,
 ) -> Result<(), AllocError> {
-    let mut files = files(alloc, PEANO, "", 0)?;
+    let mut files = files(alloc, PEANO, 0)?;
     let Ok(mut ready) = load(alloc, Syntax::Standmath, &mut files, "E") else {
         assert!(rt; false, "the equations are not accepted");
         return Ok(());
@@ -31,8 +29,8 @@ fn expect_terms(
         most: 1_000_000,
         input_bytes: u64::from(input_bytes),
     };
-    let mut out = sink(alloc, 0)?;
-    let mut err = sink(alloc, 0)?;
+    let mut out = sink(alloc, 4_194_304, 0)?;
+    let mut err = sink(alloc, 4096, 0)?;
     let ended = answer_terms(alloc, &mut ready, &settings, input, &mut out, &mut err);
     assert_eq!(rt; ended.number(), status);
     assert_eq!(rt; out.written(), output.as_bytes());
@@ -44,6 +42,7 @@ fn expect_terms(
 fn limited_inputs(rt: HostRuntime) -> Result<(), Fail> {
     let alloc = rt.alloc();
     let long = "ei: input too long\n";
+    let unknown = "ei: term refused: Unknown at byte 3\n";
     for (input_bytes, input, status, output, errors) in [
         (12, "plus(z, z). z.", 9, "z\n", long),
         (13, "plus(z, z). z.", 9, "z\n", long),
@@ -51,13 +50,7 @@ fn limited_inputs(rt: HostRuntime) -> Result<(), Fail> {
         (0, "", 0, "", ""),
         (0, " ", 9, "", long),
         (3, "z.% and so on", 9, "z\n", long),
-        (
-            8,
-            "z. q. z. z.",
-            6,
-            "z\n",
-            "ei: term refused: Unknown at byte 3\n",
-        ),
+        (8, "z. q. z. z.", 6, "z\n", unknown),
         (5, "z. \"ab", 9, "z\n", long),
     ] {
         let mut input = source(alloc, input, 0)?;
@@ -66,40 +59,27 @@ fn limited_inputs(rt: HostRuntime) -> Result<(), Fail> {
     Ok(())
 }
 
-/// Expects this of the terms of a text: the front, so many blanks, and the back.
-fn expect_wide(
-    rt: &impl Abort,
-    alloc: Global,
-    (front, blanks, back): (&str, usize, &str),
-    status: u8,
-    output: &str,
-    errors: &str,
-) -> Result<(), AllocError> {
+/// A front, so many blanks, and a back, read in pieces of 64 KiB.
+fn wide(alloc: Global, front: &str, blanks: usize, back: &str) -> Result<MemorySource, AllocError> {
     let mut text = front.as_bytes().to_vec(alloc)?;
     text.extend_from_slice(&vec![in alloc; b' '; blanks]?)?;
     text.extend_from_slice(back.as_bytes())?;
-    let mut input = MemorySource::new(text, 65_536, Vec::new(alloc));
-    expect_terms(rt, alloc, u32::MAX, &mut input, status, output, errors)
+    Ok(MemorySource::new(text, 65_536, Vec::new(alloc)))
 }
 
 #[test]
-fn long_gaps(rt: HostRuntime) -> Result<(), Fail> {
+fn wide_terms(rt: HostRuntime) -> Result<(), Fail> {
     let alloc = rt.alloc();
-    expect_wide(&rt, alloc, ("z. ", 500_000, " z."), 0, "z\nz\n", "")?;
-    expect_wide(&rt, alloc, ("%", 500_000, "\n z."), 0, "z\n", "")?;
-    expect_wide(&rt, alloc, ("z.%", 500_000, " z."), 0, "z\n", "")?;
-    Ok(())
-}
-
-#[test]
-fn longest_term(rt: HostRuntime) -> Result<(), Fail> {
-    expect_wide(&rt, rt.alloc(), ("z. z", 16_777_214, "."), 0, "z\nz\n", "")?;
-    Ok(())
-}
-
-#[test]
-fn term_too_long(rt: HostRuntime) -> Result<(), Fail> {
-    let told = "ei: term refused: TermLong at byte 3\n";
-    expect_wide(&rt, rt.alloc(), ("z. z", 16_777_215, "."), 6, "z\n", told)?;
+    let long = "ei: term refused: TermLong at byte 3\n";
+    for (front, blanks, back, status, output, errors) in [
+        ("z. ", 500_000, " z.", 0, "z\nz\n", ""),
+        ("%", 500_000, "\n z.", 0, "z\n", ""),
+        ("z.%", 500_000, " z.", 0, "z\n", ""),
+        ("z. z", 16_777_214, ".", 0, "z\nz\n", ""),
+        ("z. z", 16_777_215, ".", 6, "z\n", long),
+    ] {
+        let mut input = wide(alloc, front, blanks, back)?;
+        expect_terms(&rt, alloc, u32::MAX, &mut input, status, output, errors)?;
+    }
     Ok(())
 }
