@@ -69,9 +69,9 @@ module _ {H : Type 0} (in_class : Classes H) (lefts : List (Tree (PatternCell H)
       let there = opens k other l' b d vs qs is' in
       let rest = beside_untested x e k left other l l' (suc a) (suc b) (here.next n) (there.next n') (λ m cell past at tested. none m cell (omega (arith, past)) at tested) in
       λ m cell past at tested. ⊎_elim
-          (λ more. rest m cell (omega (arith, more)) at tested)
-          (λ first. let same : m ≡ b = omega (arith, first, past) in n' (subst IsTested (one_cell k other l' b cell d (subst (λ z. IsCell lefts k z cell) same at) there.cell) tested))
-          (cases_lt b m)
+      (λ more. rest m cell (omega (arith, more)) at tested)
+      (λ first. let same : m ≡ b = omega (arith, first, past) in n' (subst IsTested (one_cell k other l' b cell d (subst (λ z. IsCell lefts k z cell) same at) there.cell) tested))
+      (cases_lt b m)
   beside_untested end e k left other l l' a b is is' none = none_left k other l' b is'
 
 module _ {H : Type 0} (system : System H) (w : IsWellFormedSystem system) (o : IsOrthogonal system) (arity : H → ℕ) (k : HasFixedArities system arity) where
