@@ -1,19 +1,23 @@
 // What a reading by item sets finds, and that it may go on after a replacement: each is the contract of a
 // function that does nothing.
-ghost use Rattle.std.specs.Prelude.{◌≡◌, ℕ, ◌<◌, List, Option, [], ◌++◌, Some, slice_get};
+ghost use Rattle.std.specs.Prelude.{◌≡◌, ◌↔◌, ℕ, ◌<◌, List, Option, [], ◌++◌, Some, slice_get};
 ghost use Rattle.eq_base.specs.Tree.{Tree, Forest, node, empty, grow, Position};
 ghost use Rattle.eq_base.specs.Storing.{join};
 ghost use Rattle.eq_base.specs.Rewriting.{System, IsRedexBy, IsRedex, IsNormal};
+ghost use Rattle.eq_base.specs.Meeting.{in_class_of};
 ghost use Rattle.eq_base.specs.Rules.{system_of};
 ghost use Rattle.eq_base.specs.declared.head.Head.{Head};
 ghost use Rattle.eq_base.specs.declared.rules.Op.{Op};
 ghost use Rattle.eq_base.specs.RuleList.{RuleList};
+ghost use Rattle.symbol_table.specs.Table.{Table, HasOneNumberEach};
+ghost use Rattle.symbol_table.specs.Reading.{read_head, read_system, IsLiveHead, AreLive};
 ghost use Rattle.sequentiality.specs.Regular.{AreRegular};
 ghost use Rattle.orthogonal_laws.specs.Orthogonal.{IsOrthogonal, IsLawful};
 ghost use Rattle.orthogonal_laws.specs.Strategy.{IsDemandedRedex, HasNoDemandedRedex, IsNext};
-ghost use Rattle.match_laws.specs.Items.{ItemSet, IsRead, IsFirstCompleted, WantsNothing};
+ghost use Rattle.match_laws.specs.Items.{ItemSet, IsRead, IsSkip, IsCompleted, IsFirstCompleted};
+ghost use Rattle.match_laws.specs.Items.{WantsRead, WantsSkip, WantsNothing};
 ghost use Rattle.match_laws.specs.Reading.{KeepArities};
-ghost use Rattle.match_laws.specs.Demand.{left_sides, HasFixedArities};
+ghost use Rattle.match_laws.specs.Demand.{left_sides, left_sides_of, HasFixedArities};
 ghost use Rattle.graph_laws.specs.Numbered.{Numbered, plain, root_number, AreShared};
 ghost use Rattle.graph_laws.specs.Runs.{IsReplaced, IsNextNode, GraphRun};
 ghost use Rattle.machine_laws.specs.Places.{Place, arriving, ended, Turn};
@@ -142,6 +146,35 @@ pub fn equations_keep()
         → (regular : AreRegular rules) → HaveRightArities regular.well_formed.arity rules
         → GiveClassHeads value_of rules.classes
         → RightsKeep (system_of value_of rules) regular.well_formed.arity }
+{}
+
+/// Where a table has one number for each name, item sets by number are those of the equations as they are read:
+/// the same sets are wanted, and live heads lead from one to the next and complete the same left sides.
+pub fn sets_are_read()
+    ensures reads { (table : Table) → HasOneNumberEach table → (rules : RuleList) → AreLive table rules
+        → (items next : ItemSet) (h : Head) → IsLiveHead table h
+        → IsRead (in_class_of rules.classes) (left_sides_of rules) items h next
+        ↔ IsRead (read_system table rules).in_class (left_sides (read_system table rules)) items
+        (read_head table h) next }
+    ensures completes { (table : Table) → HasOneNumberEach table → (rules : RuleList) → AreLive table rules
+        → (items : ItemSet) (e c : ℕ) (h : Head) → IsLiveHead table h
+        → IsCompleted (in_class_of rules.classes) (left_sides_of rules) items h e c
+        ↔ IsCompleted (read_system table rules).in_class (left_sides (read_system table rules)) items
+        (read_head table h) e c }
+    ensures first { (table : Table) → HasOneNumberEach table → (rules : RuleList) → AreLive table rules
+        → (items : ItemSet) (e height : ℕ) (h : Head) → IsLiveHead table h
+        → IsFirstCompleted (in_class_of rules.classes) (left_sides_of rules) items h e height
+        ↔ IsFirstCompleted (read_system table rules).in_class (left_sides (read_system table rules)) items
+        (read_head table h) e height }
+    ensures skips { (table : Table) → HasOneNumberEach table → (rules : RuleList) → AreLive table rules
+        → (items next : ItemSet) → IsSkip (left_sides_of rules) items next
+        ↔ IsSkip (left_sides (read_system table rules)) items next }
+    ensures wants_read { (table : Table) → HasOneNumberEach table → (rules : RuleList) → AreLive table rules
+        → (items : ItemSet) → WantsRead (left_sides_of rules) items
+        ↔ WantsRead (left_sides (read_system table rules)) items }
+    ensures wants_skip { (table : Table) → HasOneNumberEach table → (rules : RuleList) → AreLive table rules
+        → (items : ItemSet) → WantsSkip (left_sides_of rules) items
+        ↔ WantsSkip (left_sides (read_system table rules)) items }
 {}
 
 /// What the machine does is the graph run: it replaces the nodes that the graph run replaces, and where it
