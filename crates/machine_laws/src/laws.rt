@@ -3,6 +3,7 @@
 ghost use Rattle.std.specs.Prelude.{◌≡◌, ◌↔◌, ℕ, ◌<◌, List, Option, [], ◌++◌, Some, slice_get};
 ghost use Rattle.eq_base.specs.Tree.{Tree, Forest, node, empty, grow, Position};
 ghost use Rattle.eq_base.specs.Storing.{join};
+ghost use Rattle.eq_base.specs.Pattern.{PatternCell};
 ghost use Rattle.eq_base.specs.Rewriting.{System, IsRedexBy, IsRedex, IsNormal};
 ghost use Rattle.eq_base.specs.Meeting.{in_class_of};
 ghost use Rattle.eq_base.specs.Rules.{system_of};
@@ -10,7 +11,7 @@ ghost use Rattle.eq_base.specs.declared.head.Head.{Head};
 ghost use Rattle.eq_base.specs.declared.rules.Op.{Op};
 ghost use Rattle.eq_base.specs.RuleList.{RuleList};
 ghost use Rattle.symbol_table.specs.Table.{Table, HasOneNumberEach};
-ghost use Rattle.symbol_table.specs.Reading.{read_head, read_system, IsLiveHead, AreLive};
+ghost use Rattle.symbol_table.specs.Reading.{read_head, read, read_pattern, read_system, IsLiveHead, AreLive};
 ghost use Rattle.sequentiality.specs.Regular.{AreRegular};
 ghost use Rattle.orthogonal_laws.specs.Orthogonal.{IsOrthogonal, IsLawful};
 ghost use Rattle.orthogonal_laws.specs.Strategy.{IsDemandedRedex, HasNoDemandedRedex, IsNext};
@@ -19,7 +20,9 @@ ghost use Rattle.match_laws.specs.Items.{WantsRead, WantsSkip, WantsNothing};
 ghost use Rattle.match_laws.specs.Reading.{KeepArities};
 ghost use Rattle.match_laws.specs.Demand.{left_sides, left_sides_of, HasFixedArities};
 ghost use Rattle.graph_laws.specs.Numbered.{Numbered, plain, root_number, AreShared};
-ghost use Rattle.graph_laws.specs.Runs.{IsReplaced, IsNextNode, GraphRun};
+ghost use Rattle.graph_laws.specs.Replacing.{IsReplacement};
+ghost use Rattle.machine_laws.specs.ReadTrees.{with_heads, read_trees};
+ghost use Rattle.graph_laws.specs.Runs.{IsPut, IsReplaced, IsNextNode, GraphRun};
 ghost use Rattle.machine_laws.specs.Places.{Place, arriving, ended, Turn};
 ghost use Rattle.machine_laws.specs.Work.{work};
 ghost use Rattle.machine_laws.specs.MachineRuns.{KeepAll, ReplacementsKeep, RightsKeep, MachineRun};
@@ -175,6 +178,21 @@ pub fn sets_are_read()
     ensures wants_skip { (table : Table) → HasOneNumberEach table → (rules : RuleList) → AreLive table rules
         → (items : ItemSet) → WantsSkip (left_sides_of rules) items
         ↔ WantsSkip (left_sides (read_system table rules)) items }
+{}
+
+/// Replacements in a store are those in the store as it is read, and shared trees are shared as they are read.
+pub fn stores_are_read()
+    ensures pattern { (table : Table) (left right : Tree (PatternCell Head)) (n : ℕ)
+        (trees after : List (Numbered Head)) → IsReplacement left right n trees after
+        → IsReplacement (read_pattern table left) (read_pattern table right) n (read_trees table trees)
+        (read_trees table after) }
+    ensures constant { (table : Table) (h : Head) (n : ℕ) (trees after : List (Numbered Head))
+        → IsPut h n trees after
+        → IsPut (read_head table h) n (read_trees table trees) (read_trees table after) }
+    ensures shared { (table : Table) (trees : List (Numbered Head)) → AreShared trees
+        → AreShared (read_trees table trees) }
+    ensures terms { (table : Table) (t : Numbered Head)
+        → plain (with_heads (read_head table) t) ≡ read table (plain t) }
 {}
 
 /// What the machine does is the graph run: it replaces the nodes that the graph run replaces, and where it
