@@ -10,9 +10,11 @@ ghost use Rattle.eq_base.specs.Rules.{system_of};
 ghost use Rattle.eq_base.specs.declared.head.Head.{Head};
 ghost use Rattle.eq_base.specs.declared.rules.Op.{Op};
 ghost use Rattle.eq_base.specs.RuleList.{RuleList};
+ghost use Rattle.eq_base.specs.ReadHead.{ReadHead};
 ghost use Rattle.symbol_table.specs.Table.{Table, HasOneNumberEach};
 ghost use Rattle.symbol_table.specs.Reading.{read_head, read, read_pattern, read_system, IsLiveHead, AreLive};
 ghost use Rattle.sequentiality.specs.Regular.{AreRegular};
+ghost use Rattle.orthogonal_laws.specs.Readings.{AreRegularIn};
 ghost use Rattle.orthogonal_laws.specs.Orthogonal.{IsOrthogonal, IsLawful};
 ghost use Rattle.orthogonal_laws.specs.Strategy.{IsDemandedRedex, HasNoDemandedRedex, IsNext};
 ghost use Rattle.match_laws.specs.Items.{ItemSet, IsRead, IsSkip, IsCompleted, IsFirstCompleted};
@@ -149,6 +151,16 @@ pub fn equations_keep()
         → (regular : AreRegular rules) → HaveRightArities regular.well_formed.arity rules
         → GiveClassHeads value_of rules.classes
         → RightsKeep (system_of value_of rules) regular.well_formed.arity }
+{}
+
+/// Regular equations of a table whose right sides have the fixed numbers of arguments keep these numbers as they
+/// are read, with the operations: so the laws of the machine hold of them.
+pub fn read_equations_keep()
+    ensures { (table : Table) (rules : RuleList) → (regular : AreRegularIn table rules)
+        → HaveRightArities regular.regular.well_formed.arity rules → (arity : ReadHead → ℕ)
+        × HasFixedArities (read_system table rules) arity × RightsKeep (read_system table rules) arity
+        × ((h : Head) → IsLiveHead table h
+        → arity (read_head table h) ≡ regular.regular.well_formed.arity h) }
 {}
 
 /// Where a table has one number for each name, item sets by number are those of the equations as they are read:
