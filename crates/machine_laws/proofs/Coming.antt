@@ -6,9 +6,9 @@ use Rattle.eq_base.specs.Storing.{join as append}
 use Rattle.eq_base.specs.Rewriting.{System, IsRedex}
 use Rattle.orthogonal_laws.specs.Orthogonal.{IsWellFormedSystem, IsOrthogonal}
 use Rattle.orthogonal_laws.specs.Strategy.{IsDemandedRedex, HasNoDemandedRedex}
-use Rattle.orthogonal_laws.specs.Development.{Developments, none, more}
+use Rattle.orthogonal_laws.specs.Development.{Developments}
 use Rattle.orthogonal_laws.proofs.LeftSides.{Label}
-use Rattle.orthogonal_laws.proofs.ForestDevelopments.{Develops, nil}
+use Rattle.orthogonal_laws.proofs.ForestDevelopments.{Develops}
 use Rattle.orthogonal_laws.proofs.ForestStrategy.{demand_root}
 use Rattle.orthogonal_laws.proofs.Matchers.{Matcher, run, join}
 use Rattle.orthogonal_laws.proofs.Sequential.{Guarded}
@@ -19,7 +19,7 @@ use Rattle.orthogonal_laws.proofs.Strategies.{leads-demand, quiet-no_demand}
 use Rattle.orthogonal_laws.proofs.Redexes.{compiled, step-redex}
 use Rattle.orthogonal_laws.proofs.Stepping.{no_redex-from}
 use Rattle.orthogonal_laws.proofs.NextRedexes.{no_demand-to, demand-to}
-use Rattle.orthogonal_laws.proofs.Developing.{develop-to}
+use Rattle.orthogonal_laws.proofs.Developing.{develop_all-to}
 use Rattle.match_laws.specs.Items.{ItemSet, IsRead, IsCompleted, WantsRead, WantsNothing}
 use Rattle.match_laws.specs.Reading.{KeepArities}
 use Rattle.machine_laws.specs.Frames.{Frame, around, width, plug, way, AllAround}
@@ -60,7 +60,7 @@ module _ {H : Type 0} where
   keep_inside arity [] t a = a
   keep_inside arity (f ∷ frames) t a = keep_one arity t f.behind (keep_behind arity f.before (grow t f.behind) (keep_inside arity frames (around f t) a).1)
 
-  closed-run : (ts : Forest H) {m : Matcher H} → Closed m → Closed (run m ts)
+  pub closed-run : (ts : Forest H) {m : Matcher H} → Closed m → Closed (run m ts)
   closed-run empty closed_stop = closed_stop
   closed-run empty closed_done = closed_stop
   closed-run empty (closed_skip x) = closed_stop
@@ -71,7 +71,7 @@ module _ {H : Type 0} where
   closed-run (grow (node h args) rest) (closed_end x) = closed_stop
 
 module _ {H : Type 0} (system : System H) (w : IsWellFormedSystem system) (o : IsOrthogonal system) (arity : H → ℕ) (k : HasFixedArities system arity) where
-  quiet_closed : (ts : Forest H) {m : Matcher H} → Closed m → Quiet (compiled system w) (start system w o arity k) m ts
+  pub quiet_closed : (ts : Forest H) {m : Matcher H} → Closed m → Quiet (compiled system w) (start system w o arity k) m ts
   quiet_closed empty x = quiet_nil
   quiet_closed (grow t rest) closed_stop = quiet_stop
   quiet_closed (grow t rest) closed_done = quiet_done
@@ -94,8 +94,7 @@ module _ {H : Type 0} (system : System H) (w : IsWellFormedSystem system) (o : I
     pub still : (gs : List (Frame H)) → DevelopBeside system frames gs → ComesTo system gs items
 
   pub develop_all : {ts us : Forest H} {n : ℕ} → Developments system ts us n → (weights : List ℕ) × Develops (compiled system w) ts us weights
-  develop_all none = ([], nil)
-  develop_all (more d ds) = let a = develop_all ds in let x = develop-to system w o d a.1 in (_, x.develops)
+  develop_all ds = let a = develop_all-to system w o ds in (a.weights, a.develops)
 
   argument_still : {f : Frame H} {frames gs : List (Frame H)} {items inner next : ItemSet} → ((hs : List (Frame H)) → DevelopBeside system frames hs → ComesTo system hs items) → IsRead system.in_class (left_sides system) items f.head inner →
       ((us : Forest H) (weights : List ℕ) → Develops (compiled system w) f.before us weights → Passes system inner us next) → WantsRead (left_sides system) next → DevelopBeside system (f ∷ frames) gs → ComesTo system gs next
@@ -171,7 +170,7 @@ module _ {H : Type 0} (system : System H) (w : IsWellFormedSystem system) (o : I
   abbrev NoRedexAt : Tree H → Type 0
   NoRedexAt t = IsRedex system t → ⊥
 
-  over_all : {frames : List (Frame H)} {reads : Label H → Matcher H} → Comes (compiled system w) (start system w o arity k) frames reads → (h : H) (args : Forest H) → Quiet (compiled system w) (start system w o arity k) (reads (h, count args)) args → Closed (run (reads (h, count args)) args) →
+  pub over_all : {frames : List (Frame H)} {reads : Label H → Matcher H} → Comes (compiled system w) (start system w o arity k) frames reads → (h : H) (args : Forest H) → Quiet (compiled system w) (start system w o arity k) (reads (h, count args)) args → Closed (run (reads (h, count args)) args) →
       AllAround NoRedexAt frames (node h args) → AllAround (HasNoDemandedRedex system) frames (node h args)
   over_all comes_root h args quiet closed no_redex = settled-no_demand (node h args) (settled (no_redex-from system w o h args no_redex) quiet)
   over_all (comes_below {f = f} {above = above} {next = next} comes before e) h args inner closed no_redex =

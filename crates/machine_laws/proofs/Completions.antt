@@ -32,7 +32,7 @@ module _ {H : Type 0} where
   way-append [] outer p = refl
   way-append (f ∷ inner) outer p = way-append inner outer (count f.before ∷ p)
 
-  way-back : (frames : List (Frame H)) (p : Position) → way frames p ≡ way frames [] ++ p
+  pub way-back : (frames : List (Frame H)) (p : Position) → way frames p ≡ way frames [] ++ p
   way-back [] p = refl
   way-back (f ∷ frames) p =
       way-back frames (count f.before ∷ p) ∙ (append_one (way frames []) (count f.before) p ∙ ap (λ z. z ++ p) (sym (way-back frames (count f.before ∷ []))))
@@ -41,7 +41,7 @@ module _ {H : Type 0} where
       append_one [] i q = refl
       append_one (x ∷ xs) i q = ap (λ z. x ∷ z) (append_one xs i q)
 
-  way-length : (frames : List (Frame H)) (p : Position) → length (way frames p) ≡ length frames + length p
+  pub way-length : (frames : List (Frame H)) (p : Position) → length (way frames p) ≡ length frames + length p
   way-length [] p = omega arith
   way-length (f ∷ frames) p = let z = way-length frames (count f.before ∷ p) in omega (arith, z)
 
@@ -130,7 +130,7 @@ module _ {H : Type 0} (system : System H) where
     abbrev number_at : Tree (PatternCell H) → Position → ℕ
     number_at p q = number p q
 
-    contains : (e : ℕ) (rule : Rule H) → slice_get system.rules e ≡ Some rule → Contains system.rules rule
+    pub contains : (e : ℕ) (rule : Rule H) → slice_get system.rules e ≡ Some rule → Contains system.rules rule
     contains e rule listed = in-contains (get-in system.rules e rule listed)
 
     fit-passed : (ps : Forest (PatternCell H)) (ts : Forest H) → FitAll system.in_class ps ts → fronts.Passed system.in_class ps ts
@@ -153,13 +153,13 @@ module _ {H : Type 0} (system : System H) where
     meets_head (node (restricted x class) ps) (node h empty) m = m
     meets_head (node (restricted x class) ps) (node h (grow t ts)) m = absurd m
 
-    head_met : (rule : Rule H) (t : Tree H) (p : Position) (part : Tree (PatternCell H)) → subtree_at rule.left p ≡ Some part → (m : MeetsAt system.in_class rule.left t p) → Meets system.in_class (head_of part) (head_of m.subterm)
+    pub head_met : (rule : Rule H) (t : Tree H) (p : Position) (part : Tree (PatternCell H)) → subtree_at rule.left p ≡ Some part → (m : MeetsAt system.in_class rule.left t p) → Meets system.in_class (head_of part) (head_of m.subterm)
     head_met rule t p part stands m =
         let same : m.part ≡ part = let z = m.part_stands in cc in
         subst (λ z. Meets system.in_class (head_of z) (head_of m.subterm)) same (meets_head m.part m.subterm m.meets)
 
     -- no tree is an instance of two left sides that clash
-    no_clash : (t : Tree H) {one other : Rule H} → Contains system.rules one → Contains system.rules other → IsInstanceOf system.in_class one.left t → IsInstanceOf system.in_class other.left t → ClashFirst system.in_class one.left other.left → ⊥
+    pub no_clash : (t : Tree H) {one other : Rule H} → Contains system.rules one → Contains system.rules other → IsInstanceOf system.in_class one.left t → IsInstanceOf system.in_class other.left t → ClashFirst system.in_class one.left other.left → ⊥
     no_clash t {one} {other} listed listed' is is' c =
         let m = met_of_instance one listed t is c.at c.clashes.one in
         let m' = met_of_instance other listed' t is' c.at c.clashes.other in

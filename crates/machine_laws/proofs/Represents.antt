@@ -105,13 +105,17 @@ module _ {H : Type 0} (in_class : Classes H) (lefts : List (Tree (PatternCell H)
 
   -- ---- the end
 
-  -- where no items are left, nothing more is read
+  -- where no cell from an item on is tested, nothing more is read
+  pub untested_items : (m : Matcher H) {these : ℕ → ℕ → Type 0} → ((e c : ℕ) → these e c → (n : ℕ) (cell : PatternCell H) → c ≤ n → IsCell lefts e n cell → IsTested cell → ⊥) → Represents m these → Closed m
+  untested_items (Read f) none r = let x = r.1 r.0.0 r.0.1 r.0.2 in absurd (none r.0.0 r.0.1 r.0.2 r.0.1 x.0 (omega arith) x.1 x.2)
+  untested_items (Skip m) none r = closed_skip (untested_items m (λ e c i n cell past there tested. none e i.0 i.2 n cell (let z = i.1 in omega (arith, z, past)) there tested) r.1)
+  untested_items (End m) none r = closed_end (untested_items m none r)
+  untested_items (Done d) none r = closed_done
+  untested_items Stop none r = closed_stop
+
+  -- nor where no items are left
   pub no_items : (m : Matcher H) {these : ℕ → ℕ → Type 0} → ((e c : ℕ) → these e c → ⊥) → Represents m these → Closed m
-  no_items (Read f) none r = absurd (none r.0.0 r.0.1 r.0.2)
-  no_items (Skip m) none r = closed_skip (no_items m (λ e c i. none e i.0 i.2) r.1)
-  no_items (End m) none r = closed_end (no_items m none r)
-  no_items (Done d) none r = closed_done
-  no_items Stop none r = closed_stop
+  no_items m none r = untested_items m (λ e c i n cell past there tested. none e c i) r
 
   -- ---- one left side
 

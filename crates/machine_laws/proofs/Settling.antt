@@ -5,13 +5,14 @@ use Rattle.eq_base.specs.Storing.{join as append, join-empty}
 use Rattle.eq_base.specs.Pattern.{PatternCell}
 use Rattle.orthogonal_laws.proofs.LeftSides.{Label, Compiled, NoRedex}
 use Rattle.orthogonal_laws.proofs.Matchers.{Matcher, Read, Skip, End, Done, Stop, run, join, Alive, Compiles}
-use Rattle.orthogonal_laws.proofs.Sequential.{Apart, beside_read, beside_skip, beside_end, beside_done, beside_stop_left, beside_stop_right, Sequential}
+use Rattle.orthogonal_laws.proofs.Sequential.{Apart, Sequential}
 use Rattle.orthogonal_laws.proofs.Walks.{Quiet, quiet_read, quiet_skip, quiet_nil, quiet_end, quiet_stop}
 use Rattle.orthogonal_laws.proofs.TestedParts.{apart-done}
 use Rattle.orthogonal_laws.proofs.Joins.{join-stop, joined}
 use Rattle.orthogonal_laws.proofs.JoinedWalks.{apart-beside, quiet_join}
 use Rattle.machine_laws.proofs.Passing.{past, run-past, past-past, quiet_append}
 use Rattle.machine_laws.proofs.Spans.{Spans, spans-run, spans-none}
+use Rattle.orthogonal_laws.proofs.JoinedWalks.{apart-run}
 use Rattle.machine_laws.specs.Frames.{Frame, around, width}
 use Rattle.machine_laws.proofs.Ways.{width-count, Comes, comes_root, comes_below, comes-apart}
 
@@ -25,21 +26,6 @@ module _ {H : Type 0} where
     ceases_stop : Ceases Stop
     ceases_skip : {m : Matcher H} → Ceases m → Ceases (Skip m)
     ceases_end : {m : Matcher H} → Ceases m → Ceases (End m)
-
-  -- matchers that are apart stay apart
-  apart-run : (ts : Forest H) {a b : Matcher H} → Apart a b → Apart (run a ts) (run b ts)
-  apart-run empty (beside_read x) = beside_stop_left
-  apart-run empty (beside_skip x) = beside_stop_left
-  apart-run empty (beside_end x) = x
-  apart-run empty (beside_done x) = absurd x
-  apart-run empty beside_stop_left = beside_stop_left
-  apart-run empty beside_stop_right = beside_stop_right
-  apart-run (grow (node h args) rest) (beside_read x) = apart-run rest (apart-run args (x (h, count args)))
-  apart-run (grow t rest) (beside_skip x) = apart-run rest x
-  apart-run (grow t rest) (beside_end x) = beside_stop_left
-  apart-run (grow t rest) (beside_done x) = absurd x
-  apart-run (grow t rest) beside_stop_left = beside_stop_left
-  apart-run (grow t rest) beside_stop_right = beside_stop_right
 
   pub ceases-run : (ts : Forest H) {m : Matcher H} → Ceases m → Ceases (run m ts)
   ceases-run empty ceases_stop = ceases_stop

@@ -15,9 +15,10 @@ use Rattle.machine_laws.specs.Scanning.{Passes, passes_none, passes_over, passes
 use Rattle.machine_laws.specs.Normalising.{AllTrees, AreSettledAround}
 use Rattle.machine_laws.specs.Ways.{plain_all, plain_frames}
 use Rattle.machine_laws.specs.Going.{IsWay}
-use Rattle.machine_laws.specs.Places.{Place, arriving, reading, among, turning, ended, Turn, turn_marked, turn_marked_root, turn_settled, turn_begin, turn_read, turn_skip, turn_into, turn_back, turn_first, turn_over, turn_down, turn_up, turn_end}
+use Rattle.machine_laws.specs.Places.{Place, arriving, reading, among, turning, ended, Turn, turn_marked, turn_marked_root, turn_settled, turn_begin, turn_read, turn_skip, turn_into, turn_back, turn_first, turn_over, turn_no_value, turn_down, turn_up, turn_end}
 use Rattle.machine_laws.proofs.Coming.{arrives, keep_inside}
 use Rattle.machine_laws.proofs.Standing.{StandsAt, StandsAmong, stands_inside, stands_past, stands_settled, stands_above, stands_over}
+use Rattle.machine_laws.proofs.Valueless.{no_value_settles}
 use Rattle.machine_laws.proofs.Normalising.{normal_node}
 use Rattle.machine_laws.proofs.Replacing.{plain-append, plain-plug}
 
@@ -164,6 +165,16 @@ module _ {H : Type 0} (system : System H) where
             subst (λ z. KeepArities arity (grow (plain (plug outer z)) empty)) e holds.1,
             subst (λ z. AreSettledAround system (plain_frames outer) (plain z)) e holds.2,
             subst (λ z. HasNoDemandedRedex system (plain z)) e (subst (λ z. HasNoDemandedRedex system z) (sym is) last),
+            tt,
+          )
+      turn_keeps (turn_no_value {outer = outer} {inner = inner} {l = l} {args = args} {items = items} {next = next} {e = e} {height = height} is done found none same) holds =
+          let keeps = keeps_inner outer inner (node l args) holds.1 in
+          let all = no_value_settles system w o arity k (plain_frames inner) items l.0 (plain_all args) holds.3 keeps e height found none next is done in
+          let last = last_around (HasNoDemandedRedex system) (plain_frames inner) (plain (node l args)) all in (
+            subst (λ z. slice_get trees root ≡ Some (plug outer z)) same holds.0,
+            subst (λ z. KeepArities arity (grow (plain (plug outer z)) empty)) same holds.1,
+            subst (λ z. AreSettledAround system (plain_frames outer) (plain z)) same holds.2,
+            subst (λ z. HasNoDemandedRedex system (plain z)) same (subst (λ z. HasNoDemandedRedex system z) (sym (plain-plug inner (node l args))) last),
             tt,
           )
       turn_keeps (turn_down {outer = outer} {l = l} {before = before} {behind = behind} {t = t}) holds =

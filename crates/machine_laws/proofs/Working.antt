@@ -4,7 +4,7 @@ use Rattle.eq_base.specs.Tree.{Tree, node, empty, grow, args_of, size}
 use Rattle.eq_base.specs.Storing.{join-empty}
 use Rattle.eq_base.specs.Rewriting.{System}
 use Rattle.machine_laws.specs.Frames.{around, plug}
-use Rattle.machine_laws.specs.Places.{Place, Turn, turn_marked, turn_marked_root, turn_settled, turn_begin, turn_read, turn_skip, turn_into, turn_back, turn_first, turn_over, turn_down, turn_up, turn_end}
+use Rattle.machine_laws.specs.Places.{Place, Turn, turn_marked, turn_marked_root, turn_settled, turn_begin, turn_read, turn_skip, turn_into, turn_back, turn_first, turn_over, turn_no_value, turn_down, turn_up, turn_end}
 use Rattle.machine_laws.specs.Work.{arrive_work, turn_work, read_work, work}
 use Rattle.machine_laws.proofs.Turns.{append-append}
 
@@ -36,6 +36,7 @@ module _ {H : Type 0} (system : System H) where
       omega (arith, same, same')
   turn_works (turn_first {l = l} {before = before}) = let same = ap (λ z. turn_work z) (join-empty before) in omega (arith, same)
   turn_works (turn_over nothing e) = let same = ap (λ z. turn_work (args_of z)) e in omega (arith, same)
+  turn_works (turn_no_value is done found none e) = let same = ap (λ z. turn_work (args_of z)) e in omega (arith, same)
   turn_works turn_down = omega arith
   turn_works turn_up = omega arith
   turn_works turn_end = omega arith

@@ -2,12 +2,14 @@
 use Rattle.std.specs.Prelude.{◌≡◌, ℕ, List, [], ◌∷◌}
 use Rattle.eq_base.specs.Tree.{Forest, node, empty, grow}
 use Rattle.eq_base.specs.Storing.{join}
-use Rattle.eq_base.specs.Rewriting.{System, IsNormal}
+use Rattle.eq_base.specs.Rewriting.{System, IsRedexBy, IsNormal}
 use Rattle.orthogonal_laws.specs.Strategy.{HasNoDemandedRedex}
-use Rattle.match_laws.specs.Items.{ItemSet, IsRead, IsSkip, IsCompleted, WantsRead, WantsSkip, WantsNothing}
+use Rattle.match_laws.specs.Items.{ItemSet, IsRead, IsSkip, IsCompleted, IsFirstCompleted, WantsRead, WantsSkip, WantsNothing}
 use Rattle.match_laws.specs.Demand.{left_sides}
 use Rattle.graph_laws.specs.Numbered.{Numbered, plain}
 use Rattle.machine_laws.specs.Frames.{Frame, plug}
+use Rattle.machine_laws.specs.Completions.{FitsFirstAbove}
+use Rattle.machine_laws.specs.Ways.{plain_frames}
 
 -- below settled nodes (outer), and in a reading below more nodes (inner)
 pub data Place (H : Type 0) : Type 0 where
@@ -57,6 +59,14 @@ module _ {H : Type 0} (system : System H) where
         × ℕ} {before behind args : Forest (H × ℕ)} {items : ItemSet} → WantsNothing (left_sides system) items
         → plug inner (node l (join before behind)) ≡ node m args
         → Turn (among outer inner l before behind items) (turning outer m empty args)
+    -- the first completed rule has no value where it fits: the reading is over
+    turn_no_value : {outer inner : List (Frame (H × ℕ))} {l m : H × ℕ} {args all : Forest (H × ℕ)}
+        {items next : ItemSet} {e height : ℕ} → IsRead system.in_class (left_sides system) items l.0 next
+        → IsFirstCompleted system.in_class (left_sides system) items l.0 e height
+        → (found : FitsFirstAbove system (plain_frames inner) (plain (node l args)) e height)
+        → (IsRedexBy system e (plug found.inner (plain (node l args))) → ⊥)
+        → plug inner (node l args) ≡ node m all
+        → Turn (reading outer inner (node l args) items) (turning outer m empty all)
     turn_down : {outer : List (Frame (H × ℕ))} {l : H × ℕ} {before behind : Forest (H × ℕ)} {t : Numbered H}
         → Turn (turning outer l before (grow t behind)) (arriving (record { head = l; before = before; behind = behind } ∷ outer) t)
     turn_up : {f : Frame (H × ℕ)} {outer : List (Frame (H × ℕ))} {l : H × ℕ} {before : Forest (H × ℕ)}

@@ -1,21 +1,30 @@
 // What a reading by item sets finds, and that it may go on after a replacement: each is the contract of a
 // function that does nothing.
-ghost use Rattle.std.specs.Prelude.{◌≡◌, ℕ, ◌<◌, List, Option, [], ◌++◌, Some, slice_get};
+ghost use Rattle.std.specs.Prelude.{◌≡◌, ◌↔◌, ℕ, ◌<◌, List, Option, [], ◌++◌, Some, slice_get};
 ghost use Rattle.eq_base.specs.Tree.{Tree, Forest, node, empty, grow, Position};
 ghost use Rattle.eq_base.specs.Storing.{join};
-ghost use Rattle.eq_base.specs.Rewriting.{System, IsRedex, IsNormal};
+ghost use Rattle.eq_base.specs.Pattern.{PatternCell};
+ghost use Rattle.eq_base.specs.Rewriting.{System, IsRedexBy, IsRedex, IsNormal};
+ghost use Rattle.eq_base.specs.Meeting.{in_class_of};
 ghost use Rattle.eq_base.specs.Rules.{system_of};
 ghost use Rattle.eq_base.specs.declared.head.Head.{Head};
 ghost use Rattle.eq_base.specs.declared.rules.Op.{Op};
 ghost use Rattle.eq_base.specs.RuleList.{RuleList};
+ghost use Rattle.eq_base.specs.ReadHead.{ReadHead};
+ghost use Rattle.symbol_table.specs.Table.{Table, HasOneNumberEach};
+ghost use Rattle.symbol_table.specs.Reading.{read_head, read, read_pattern, read_system, IsLiveHead, AreLive};
 ghost use Rattle.sequentiality.specs.Regular.{AreRegular};
+ghost use Rattle.orthogonal_laws.specs.Readings.{AreRegularIn};
 ghost use Rattle.orthogonal_laws.specs.Orthogonal.{IsOrthogonal, IsLawful};
 ghost use Rattle.orthogonal_laws.specs.Strategy.{IsDemandedRedex, HasNoDemandedRedex, IsNext};
-ghost use Rattle.match_laws.specs.Items.{ItemSet, IsRead, IsFirstCompleted, WantsNothing};
+ghost use Rattle.match_laws.specs.Items.{ItemSet, IsRead, IsSkip, IsCompleted, IsFirstCompleted};
+ghost use Rattle.match_laws.specs.Items.{WantsRead, WantsSkip, WantsNothing};
 ghost use Rattle.match_laws.specs.Reading.{KeepArities};
-ghost use Rattle.match_laws.specs.Demand.{left_sides, HasFixedArities};
+ghost use Rattle.match_laws.specs.Demand.{left_sides, left_sides_of, HasFixedArities};
 ghost use Rattle.graph_laws.specs.Numbered.{Numbered, plain, root_number, AreShared};
-ghost use Rattle.graph_laws.specs.Runs.{IsReplaced, IsNextNode, GraphRun};
+ghost use Rattle.graph_laws.specs.Replacing.{IsReplacement};
+ghost use Rattle.machine_laws.specs.ReadTrees.{with_heads, read_trees};
+ghost use Rattle.graph_laws.specs.Runs.{IsPut, IsReplaced, IsNextNode, GraphRun};
 ghost use Rattle.machine_laws.specs.Places.{Place, arriving, ended, Turn};
 ghost use Rattle.machine_laws.specs.Work.{work};
 ghost use Rattle.machine_laws.specs.MachineRuns.{KeepAll, ReplacementsKeep, RightsKeep, MachineRun};
@@ -54,6 +63,18 @@ pub fn way_is_settled<H>()
         → Passes system inner before next → WantsNothing (left_sides system) next
         → AllAround (λ t. IsRedex system t → ⊥) frames (node h (join before behind))
         → AllAround (HasNoDemandedRedex system) frames (node h (join before behind)) }
+{}
+
+/// Where the first completed rule has no value, no node on the way has a demanded redex: the reading is over.
+pub fn no_value_settles<H>()
+    ensures { (system : System H) → IsLawful system → (arity : H → ℕ) → HasFixedArities system arity
+        → (frames : List (Frame H)) (items next : ItemSet) (h : H) (args : Forest H) (e height : ℕ)
+        → KeepArities arity (grow (plug frames (node h args)) empty) → ComesTo system frames items
+        → IsRead system.in_class (left_sides system) items h next
+        → IsFirstCompleted system.in_class (left_sides system) items h e height
+        → (found : FitsFirstAbove system frames (node h args) e height)
+        → (IsRedexBy system e (plug found.inner (node h args)) → ⊥)
+        → AllAround (HasNoDemandedRedex system) frames (node h args) }
 {}
 
 /// Where what stands before and behind a way develops, the reading comes with the same items to the node
@@ -130,6 +151,60 @@ pub fn equations_keep()
         → (regular : AreRegular rules) → HaveRightArities regular.well_formed.arity rules
         → GiveClassHeads value_of rules.classes
         → RightsKeep (system_of value_of rules) regular.well_formed.arity }
+{}
+
+/// Regular equations of a table whose right sides have the fixed numbers of arguments keep these numbers as they
+/// are read, with the operations: so the laws of the machine hold of them.
+pub fn read_equations_keep()
+    ensures { (table : Table) (rules : RuleList) → (regular : AreRegularIn table rules)
+        → HaveRightArities regular.regular.well_formed.arity rules → (arity : ReadHead → ℕ)
+        × HasFixedArities (read_system table rules) arity × RightsKeep (read_system table rules) arity
+        × ((h : Head) → IsLiveHead table h
+        → arity (read_head table h) ≡ regular.regular.well_formed.arity h) }
+{}
+
+/// Where a table has one number for each name, item sets by number are those of the equations as they are read:
+/// the same sets are wanted, and live heads lead from one to the next and complete the same left sides.
+pub fn sets_are_read()
+    ensures reads { (table : Table) → HasOneNumberEach table → (rules : RuleList) → AreLive table rules
+        → (items next : ItemSet) (h : Head) → IsLiveHead table h
+        → IsRead (in_class_of rules.classes) (left_sides_of rules) items h next
+        ↔ IsRead (read_system table rules).in_class (left_sides (read_system table rules)) items
+        (read_head table h) next }
+    ensures completes { (table : Table) → HasOneNumberEach table → (rules : RuleList) → AreLive table rules
+        → (items : ItemSet) (e c : ℕ) (h : Head) → IsLiveHead table h
+        → IsCompleted (in_class_of rules.classes) (left_sides_of rules) items h e c
+        ↔ IsCompleted (read_system table rules).in_class (left_sides (read_system table rules)) items
+        (read_head table h) e c }
+    ensures first { (table : Table) → HasOneNumberEach table → (rules : RuleList) → AreLive table rules
+        → (items : ItemSet) (e height : ℕ) (h : Head) → IsLiveHead table h
+        → IsFirstCompleted (in_class_of rules.classes) (left_sides_of rules) items h e height
+        ↔ IsFirstCompleted (read_system table rules).in_class (left_sides (read_system table rules)) items
+        (read_head table h) e height }
+    ensures skips { (table : Table) → HasOneNumberEach table → (rules : RuleList) → AreLive table rules
+        → (items next : ItemSet) → IsSkip (left_sides_of rules) items next
+        ↔ IsSkip (left_sides (read_system table rules)) items next }
+    ensures wants_read { (table : Table) → HasOneNumberEach table → (rules : RuleList) → AreLive table rules
+        → (items : ItemSet) → WantsRead (left_sides_of rules) items
+        ↔ WantsRead (left_sides (read_system table rules)) items }
+    ensures wants_skip { (table : Table) → HasOneNumberEach table → (rules : RuleList) → AreLive table rules
+        → (items : ItemSet) → WantsSkip (left_sides_of rules) items
+        ↔ WantsSkip (left_sides (read_system table rules)) items }
+{}
+
+/// Replacements in a store are those in the store as it is read, and shared trees are shared as they are read.
+pub fn stores_are_read()
+    ensures pattern { (table : Table) (left right : Tree (PatternCell Head)) (n : ℕ)
+        (trees after : List (Numbered Head)) → IsReplacement left right n trees after
+        → IsReplacement (read_pattern table left) (read_pattern table right) n (read_trees table trees)
+        (read_trees table after) }
+    ensures constant { (table : Table) (h : Head) (n : ℕ) (trees after : List (Numbered Head))
+        → IsPut h n trees after
+        → IsPut (read_head table h) n (read_trees table trees) (read_trees table after) }
+    ensures shared { (table : Table) (trees : List (Numbered Head)) → AreShared trees
+        → AreShared (read_trees table trees) }
+    ensures terms { (table : Table) (t : Numbered Head)
+        → plain (with_heads (read_head table) t) ≡ read table (plain t) }
 {}
 
 /// What the machine does is the graph run: it replaces the nodes that the graph run replaces, and where it
