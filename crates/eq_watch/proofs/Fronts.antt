@@ -8,8 +8,10 @@ use Rattle.eq_watch.specs.Telling.{changed_where, told, ToldFronts, IsToldFront}
 -- watches some of which were told are told fronts
 pub told_fronts : (on : List Bool) (events : List Event) (all : List WatchState) (i : ℕ)
     → ToldFronts on events all (told (take i on) events all)
-told_fronts [] events [] i = refl
-told_fronts [] events (watch ∷ all) i = refl
+told_fronts [] events [] zero = refl
+told_fronts [] events [] (suc i) = refl
+told_fronts [] events (watch ∷ all) zero = refl
+told_fronts [] events (watch ∷ all) (suc i) = refl
 told_fronts (first ∷ on) events [] zero = refl
 told_fronts (true ∷ on) events [] (suc i) = refl
 told_fronts (false ∷ on) events [] (suc i) = refl

@@ -1,5 +1,6 @@
 -- Some watches, of which some are turned on.
-use Rattle.std.specs.Prelude.{◌≡◌, ℕ, Bool, true, false, List, [], ◌∷◌, ◌++◌, ◌||◌, take, list_any, codes, bytes_eq}
+use Rattle.std.specs.Prelude.{◌≡◌, ℕ, Bool, true, false, List, [], ◌∷◌, ◌++◌, ◌||◌, take, codes, bytes_eq}
+use Rattle.std.specs.List.{list_any}
 use Rattle.eq_watch.specs.declared.event.Event.{Event}
 use Rattle.eq_watch.specs.Watching.{WatchState, moved, moved_by, cleared, reported}
 
