@@ -1,6 +1,6 @@
 -- Watches that are changed one after the other.
-use Rattle.std.proofs.Common.{◌≡◌, ℕ, zero, suc, ◌+◌, ◌<◌, ◌≤◌, Bool, true, false, List, [], ◌∷◌, ◌++◌, length, get_or, set, take, refl, sym, ap, ◌∙◌, arith, add-one, append_assoc, append-nil, map, length-map}
-use Rattle.std.proofs.lemmas.List.{map-set, get_or-map, set-get_or, get_or_read}
+use Rattle.std.proofs.Common.{◌≡◌, ℕ, zero, suc, ◌+◌, ◌<◌, ◌≤◌, Bool, true, false, List, [], ◌∷◌, ◌++◌, length, get_or, set, take, refl, sym, ap, ◌∙◌, arith, add-one, append_assoc, append-nil, map}
+use Rattle.std.proofs.lemmas.List.{length-map, map-set, get_or-map, set-get_or, get_or_read}
 use Rattle.eq_watch.specs.Watching.{WatchState, reported, Grew}
 use Rattle.eq_watch.specs.Telling.{changed_where, reports}
 
@@ -71,7 +71,7 @@ same_count : {X : Type 0} (start old : List X) (state : X → WatchState) (chang
     (on : List Bool) → map state old ≡ changed_where change on (map state start) → length old ≡ length start
 same_count start old state change on so_far =
     let e = ap length so_far in
-    omega (arith, e, length-map state old, length-map state start, length-changed_where change on (map state start))
+    omega (arith, e, length-map old state, length-map start state, length-changed_where change on (map state start))
 
 -- a watch that is turned on is changed in its place
 pub next_changed : {X : Type 0} (start old : List X) (i : ℕ) (was now : X) (state : X → WatchState)
@@ -86,7 +86,7 @@ next_changed start old i was now state change on same within is_on read moved so
     let e : state now ≡ change (get_or (changed_where change (take i on) (map state start)) i (state was)) =
       moved ∙ ap change (sym here ∙ ap (λ all. get_or all i (state was)) so_far) in
     rw (add-one, map-set) (ap (λ all. set all i (state now)) so_far
-    ∙ changed_where-more change on (map state start) i false (state was) (state now) (omega (arith, length-map state start)) within is_on e)
+    ∙ changed_where-more change on (map state start) i false (state was) (state now) (omega (arith, length-map start state)) within is_on e)
 
 -- a watch that is off stays in its place
 pub next_same : (change : WatchState → WatchState) (on : List Bool) (old all : List WatchState) (i : ℕ)
@@ -114,7 +114,7 @@ pub next_reported : {X : Type 0} (all : List X) (i : ℕ) (one : X) (state : X �
 next_reported all i one state on old text new same within is_on read so_far more =
     let e : get_or (map state all) i (state one) ≡ state one =
       get_or-map state all i one (state one) (omega arith) ∙ ap state (sym read) in
-    let r = reports-more on (map state all) i false (state one) (omega (arith, length-map state all)) within is_on in
+    let r = reports-more on (map state all) i false (state one) (omega (arith, length-map all state)) within is_on in
     rw (add-one, r, e, more, so_far) (append_assoc old (reports (take i on) (map state all)) (reported (state one)))
 
 -- the reports stay where a watch is off

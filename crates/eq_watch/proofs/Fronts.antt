@@ -42,3 +42,8 @@ told_none (true ∷ on) [] = refl
 told_none (false ∷ on) [] = refl
 told_none (true ∷ on) (watch ∷ all) = ap (λ rest. watch ∷ rest) (told_none on all)
 told_none (false ∷ on) (watch ∷ all) = ap (λ rest. watch ∷ rest) (told_none on all)
+
+-- watches that some were told so are told fronts
+pub fronts_from : (on : List Bool) (event : Event) (all new : List WatchState) (i : ℕ)
+    → new ≡ changed_where (λ watch. moved watch event) (take i on) all → ToldFronts on (event ∷ []) all new
+fronts_from on event all new i is = rw is (told_fronts on (event ∷ []) all i)
