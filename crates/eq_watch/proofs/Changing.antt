@@ -1,6 +1,6 @@
 -- Watches that are changed one after the other.
-use Rattle.std.proofs.Common.{◌≡◌, ℕ, zero, suc, ◌+◌, ◌<◌, ◌≤◌, Bool, true, false, List, [], ◌∷◌, ◌++◌, length, get_or, set, take, refl, sym, ap, ◌∙◌, arith, add-one, append_assoc, append-nil, map}
-use Rattle.std.proofs.lemmas.List.{length-map, map-set, get_or-map, set-get_or, get_or_read}
+use Rattle.std.proofs.Common.{◌≡◌, ℕ, zero, suc, ◌+◌, ◌<◌, Bool, true, false, List, [], ◌∷◌, ◌++◌, length, get_or, set, take, refl, sym, ap, ◌∙◌, arith, add-one, append_assoc, append-nil, map}
+use Rattle.std.proofs.lemmas.List.{length-map, map-set, get_or-map, set-get_or}
 use Rattle.eq_watch.specs.Watching.{WatchState, reported, Grew}
 use Rattle.eq_watch.specs.Telling.{changed_where, reports}
 
@@ -82,9 +82,9 @@ pub next_changed : {X : Type 0} (start old : List X) (i : ℕ) (was now : X) (st
 next_changed start old i was now state change on same within is_on read moved so_far =
     let n = same_count start old state change (take i on) so_far in
     let here : get_or (map state old) i (state was) ≡ state was =
-      get_or-map state old i was (state was) (omega arith) ∙ ap state (sym read) in
+    get_or-map state old i was (state was) (omega arith) ∙ ap state (sym read) in
     let e : state now ≡ change (get_or (changed_where change (take i on) (map state start)) i (state was)) =
-      moved ∙ ap change (sym here ∙ ap (λ all. get_or all i (state was)) so_far) in
+    moved ∙ ap change (sym here ∙ ap (λ all. get_or all i (state was)) so_far) in
     rw (add-one, map-set) (ap (λ all. set all i (state now)) so_far
     ∙ changed_where-more change on (map state start) i false (state was) (state now) (omega (arith, length-map start state)) within is_on e)
 
@@ -103,7 +103,7 @@ pub map-set_same : {X : Type 0} (start old : List X) (i : ℕ) (was now : X) (st
 map-set_same start old i was now state change on same within read kept so_far =
     let n = same_count start old state change (take i on) so_far in
     let here : get_or (map state old) i (state was) ≡ state was =
-      get_or-map state old i was (state was) (omega arith) ∙ ap state (sym read) in
+    get_or-map state old i was (state was) (omega arith) ∙ ap state (sym read) in
     rw map-set (ap (λ w. set (map state old) i w) (kept ∙ sym here) ∙ (set-get_or (map state old) i (state was) ∙ so_far))
 
 -- the report of a watch that is turned on is added
@@ -113,7 +113,7 @@ pub next_reported : {X : Type 0} (all : List X) (i : ℕ) (one : X) (state : X �
     → new ≡ text ++ reported (state one) → new ≡ old ++ reports (take (i + 1) on) (map state all)
 next_reported all i one state on old text new same within is_on read so_far more =
     let e : get_or (map state all) i (state one) ≡ state one =
-      get_or-map state all i one (state one) (omega arith) ∙ ap state (sym read) in
+    get_or-map state all i one (state one) (omega arith) ∙ ap state (sym read) in
     let r = reports-more on (map state all) i false (state one) (omega (arith, length-map all state)) within is_on in
     rw (add-one, r, e, more, so_far) (append_assoc old (reports (take i on) (map state all)) (reported (state one)))
 

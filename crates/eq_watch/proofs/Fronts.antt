@@ -1,9 +1,9 @@
 -- Events that watches were told of, one after the other, and fronts of them.
-use Rattle.std.proofs.Common.{◌≡◌, ℕ, zero, suc, ◌+◌, ◌<◌, ◌≤◌, Bool, true, false, List, [], ◌∷◌, ◌++◌, length, get_or, take, refl, sym, ap, ◌∙◌, arith}
+use Rattle.std.proofs.Common.{◌≡◌, ℕ, zero, suc, Bool, true, false, List, [], ◌∷◌, ◌++◌, length, take, refl, sym, ap, arith}
 use Rattle.std.proofs.lemmas.List.{take_all}
 use Rattle.eq_watch.specs.declared.event.Event.{Event}
 use Rattle.eq_watch.specs.Watching.{WatchState, moved, moved_by}
-use Rattle.eq_watch.specs.Telling.{changed_where, told, ToldFronts, IsToldFront}
+use Rattle.eq_watch.specs.Telling.{changed_where, told, ToldFronts}
 
 -- watches some of which were told are told fronts
 pub told_fronts : (on : List Bool) (events : List Event) (all : List WatchState) (i : ℕ)

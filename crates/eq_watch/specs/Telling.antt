@@ -2,7 +2,7 @@
 use Rattle.std.specs.Prelude.{◌≡◌, ℕ, Bool, true, false, List, [], ◌∷◌, ◌++◌, ◌||◌, take, codes, bytes_eq}
 use Rattle.std.specs.List.{list_any}
 use Rattle.eq_watch.specs.declared.event.Event.{Event}
-use Rattle.eq_watch.specs.Watching.{WatchState, moved, moved_by, cleared, reported}
+use Rattle.eq_watch.specs.Watching.{WatchState, moved_by, cleared, reported}
 
 -- each watch that is turned on was changed so
 abbrev pub changed_where : (WatchState → WatchState) → List Bool → List WatchState → List WatchState

@@ -1,5 +1,5 @@
 -- The watch that notes each replacement.
-use Rattle.std.specs.Prelude.{ℕ, List, [], ◌∷◌, ◌++◌, flat_map, codes, decimal, bytes_eq}
+use Rattle.std.specs.Prelude.{ℕ, List, [], ◌∷◌, ◌++◌, codes, decimal, bytes_eq}
 use Rattle.eq_watch.specs.declared.event.Event.{Event}
 use Rattle.eq_watch.specs.Watching.{WatchState}
 

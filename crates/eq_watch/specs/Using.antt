@@ -1,5 +1,5 @@
 -- The counts of the watch `profile`, as they are stored.
-use Rattle.std.specs.Prelude.{ℕ, ◌<◌, ◌≤◌, List, [], ◌∷◌, length}
+use Rattle.std.specs.Prelude.{ℕ, ◌<◌, ◌≤◌, List, [], ◌∷◌}
 use Rattle.std.specs.List.Sorted.{IsNonDecreasingBy, IsPartitionPoint}
 use Rattle.eq_watch.specs.declared.profile.Used.{Used}
 use Rattle.eq_watch.specs.Profiling.{profile_line}

@@ -67,7 +67,11 @@ fn report_one(watch: &Box<dyn Watch>, into: &mut Vec<u8>) -> Result<(), NoMemory
 /// # Errors
 ///
 /// Out of memory; the old bytes are then the first of `into`.
-pub fn report_each(watch: &Vec<Box<dyn Watch>>, on: &[bool], into: &mut Vec<u8>) -> Result<(), NoMemory>
+pub fn report_each(
+    watch: &Vec<Box<dyn Watch>>,
+    on: &[bool],
+    into: &mut Vec<u8>,
+) -> Result<(), NoMemory>
     requires { length on.now ≡ vec_len watch.now }
     ensures ok { OnOk result (into.new.items ≡ into.old.items ++ reports on.now (map state watch.now.items)) }
     ensures err { OnErr result (Grew into.old.items into.new.items) }
@@ -89,7 +93,11 @@ fn answers(watch: &Box<dyn Watch>, name: &str) -> bool
 
 /// For each watch whether a name turns it on: `all` turns on every one. `None` where the name is another one to
 /// which no watch answers yes.
-pub fn named(alloc: Global, watch: &Vec<Box<dyn Watch>>, name: &str) -> Result<Option<Vec<bool>>, NoMemory>
+pub fn named(
+    alloc: Global,
+    watch: &Vec<Box<dyn Watch>>,
+    name: &str,
+) -> Result<Option<Vec<bool>>, NoMemory>
     ensures known { IfOk result (λ found. is_some found ≡ is_watch_name name.now (map state watch.now.items)) }
     ensures on { IfOk result (λ found. IfSome found
         (λ on. on.items ≡ map (is_turned_on name.now) (map state watch.now.items))) }

@@ -1,6 +1,6 @@
-use Rattle.std.proofs.Common.{◌≡◌, ◌++◌, [], ◌∷◌, map, take}
+use Rattle.std.proofs.Common.{◌≡◌, ◌++◌, map, take}
 use Rattle.eq_watch.specs.Watching.{Grew}
-use Rattle.eq_watch.specs.Telling.{told, cleared_each, reports}
+use Rattle.eq_watch.specs.Telling.{reports}
 use Rattle.eq_watch.proofs.boxes.report_each.Given as goal
 
 abbrev pub invariant-loop-i : goal.invariant-loop-i

@@ -1,6 +1,5 @@
-use Rattle.std.proofs.Common.{◌≡◌, ◌++◌, [], ◌∷◌, map, take}
-use Rattle.eq_watch.specs.Watching.{Grew}
-use Rattle.eq_watch.specs.Telling.{told, cleared_each, reports}
+use Rattle.std.proofs.Common.{◌≡◌, [], ◌∷◌, map, take}
+use Rattle.eq_watch.specs.Telling.{told}
 use Rattle.eq_watch.proofs.boxes.tell.Given as goal
 
 abbrev pub invariant-loop-i : goal.invariant-loop-i

@@ -12,5 +12,5 @@ returns-in_err-write_used-clause-err c =
 pub returns-clause-ok : goal.returns-clause-ok
 returns-clause-ok c =
     profile_report c.args.into.now.items c.loop-used.into.items c.deref-used-items.result.now
-      c.self.inside.used.items c.loop-used.used-index c.args.self.now c.loop-used.invariant.text (omega arith)
-      c.deref-used-items.ensures.value c.self.view_is
+    c.self.inside.used.items c.loop-used.used-index c.args.self.now c.loop-used.invariant.text (omega arith)
+    c.deref-used-items.ensures.value c.self.view_is
