@@ -42,19 +42,27 @@ impl State {
     fn place_of(&self, head: Head) -> Option<usize>
         ensures { IsPlaceIn self.now.heads.keys head result }
     {
-        self.heads.get_index_of(&head)
+        let heads = self.heads.as_slice();
+        for place in 0..heads.len() {
+            if heads[place] == head {
+                return Some(place);
+            }
+        }
+        None
     }
 
     /// Where a head leads, given where a symbol leads that no item below the roots meets.
     pub fn on_head(&self, head: Head, root: Move) -> Move
         ensures { (rules : RuleList) → AreWellFormed rules → (sets : List ItemSet) (items : ItemSet)
-            → AreItemsOf rules items → IsRow rules sets items self.now
+            → IsRow rules sets items self.now
             → IsOnHead rules sets items head root result }
     {
         if let Some(place) = self.place_of(head) {
-            if place < self.moves.len() {
-                return self.moves[place];
-            }
+            return if place < self.moves.len() {
+                self.moves[place]
+            } else {
+                root
+            };
         }
         match head {
             Head::Symbol(_) => root,
@@ -195,9 +203,7 @@ fn moves_of(
     let mut moves = Vec::new(alloc);
     for head in heads {
         let to = search.go(alloc, rules, ends, state, Step::Read(*head))?;
-        if moves.push(to).is_err() {
-            return Err(Stop::NoMemory);
-        }
+        moves.push(to)?;
     }
     Ok(moves)
 }
