@@ -1,0 +1,16 @@
+pub mod Places
+pub mod Keys
+pub mod Moved
+pub mod Firsts
+pub mod Holding
+pub mod Rights
+pub mod Fronts
+pub mod Meeting
+pub mod Passing
+pub mod Reached
+pub mod TermSets
+pub mod Demanding
+pub mod Beside
+pub mod Unmixed
+pub mod SetLaws
+pub mod Depths
