@@ -14,3 +14,4 @@ pub mod Beside
 pub mod Unmixed
 pub mod SetLaws
 pub mod Depths
+pub mod Lasts
