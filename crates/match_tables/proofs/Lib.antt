@@ -15,3 +15,4 @@ pub mod Unmixed
 pub mod SetLaws
 pub mod Depths
 pub mod Lasts
+pub mod LastCells
