@@ -65,16 +65,16 @@ module _ {A : Type 0} where
         let long : length ps ≡ size t = length-map (positions t) (λ q. (0, q)) ∙ length-positions t in
         ⊎_elim
         (λ less.
-            above-front (subtrees t) (all_subtrees ts) c (omega (arith, less, length-subtrees t))
-            ∙ above-depth t c less
-            ∙ sym (ap (λ (p : ℕ × Position). length p.1) (get_or_append_left ps qs d c (omega (arith, long, less))
-            ∙ get_or-map (λ q. (0, q)) (positions t) c [] d (omega (arith, less, length-positions t)))))
+        above-front (subtrees t) (all_subtrees ts) c (omega (arith, less, length-subtrees t))
+        ∙ above-depth t c less
+        ∙ sym (ap (λ (p : ℕ × Position). length p.1) (get_or_append_left ps qs d c (omega (arith, long, less))
+        ∙ get_or-map (λ q. (0, q)) (positions t) c [] d (omega (arith, less, length-positions t)))))
         (λ past.
-            let m : ℕ = c - size t in
-            above-past t (all_subtrees ts) m c (omega (arith, past))
-            ∙ above-all_depth ts m d (omega (arith, past, h))
-            ∙ sym (ap (λ (p : ℕ × Position). length p.1) (get_or-append_right ps qs (size t) c d long past
-            ∙ get_or-map (λ p. (suc p.0, p.1)) (all_positions ts) m d d (omega (arith, past, h, length-all_positions ts)))))
+        let m : ℕ = c - size t in
+        above-past t (all_subtrees ts) m c (omega (arith, past))
+        ∙ above-all_depth ts m d (omega (arith, past, h))
+        ∙ sym (ap (λ (p : ℕ × Position). length p.1) (get_or-append_right ps qs (size t) c d long past
+        ∙ get_or-map (λ p. (suc p.0, p.1)) (all_positions ts) m d d (omega (arith, past, h, length-all_positions ts)))))
         (cases_lt c (size t))
 
   above-cons : (t : Tree A) (ts : List (Tree A)) (c n : ℕ) → c ≡ suc n → above (t ∷ ts) c ≡ min 1 (size t - c) + above ts n

@@ -1,13 +1,12 @@
 -- The last tested cells of all left sides, as they are found.
-use Rattle.std.proofs.Common.{◌≡◌, ◌⊎◌, ℕ, suc, ◌+◌, ◌<◌, ◌≤◌, List, [], ◌∷◌, ◌++◌, length, slice_get, Some, refl, sym, ◌∙◌, ap, subst, arith, ⊎_elim, length-append}
+use Rattle.std.proofs.Common.{◌≡◌, ℕ, ◌+◌, ◌<◌, List, [], ◌∷◌, ◌++◌, length, slice_get, Some, refl, sym, subst, arith, ⊎_elim, length-append}
 use Rattle.std.proofs.lemmas.Option.{none-some}
 use Rattle.eq_base.specs.Tree.{Tree, head_of, size, nth_subtree}
 use Rattle.eq_base.specs.Pattern.{PatternCell, IsTested}
 use Rattle.eq_base.specs.RuleList.{RuleList}
-use Rattle.eq_base.specs.Limits.{most_left_cells}
 use Rattle.eq_base.specs.declared.head.Head.{Head}
 use Rattle.eq_base.specs.declared.rules.Equation.{Equation}
-use Rattle.regularity.specs.WellFormed.{IsWellFormed, AreWellFormed, HasSymbolRoot}
+use Rattle.regularity.specs.WellFormed.{IsWellFormed, AreWellFormed}
 use Rattle.match_tables.specs.Demand.{left_sides_of}
 use Rattle.match_tables.specs.Ending.{IsEndOf}
 use Rattle.match_tables.specs.Completing.{IsEnd, AreEnds}

@@ -1,7 +1,7 @@
 -- The last tested cell of a left side, as it is looked for.
-use Rattle.std.proofs.Common.{◌≡◌, ℕ, ◌+◌, ◌<◌, ◌≤◌, refl, sym, ap, subst, arith, ⊎_elim}
+use Rattle.std.proofs.Common.{◌≡◌, ℕ, ◌+◌, ◌<◌, ◌≤◌, sym, subst, arith, ⊎_elim}
 use Rattle.std.proofs.lemmas.Bool.{cases_lt}
-use Rattle.eq_base.specs.Tree.{Tree, node, head_of, size, nth_subtree}
+use Rattle.eq_base.specs.Tree.{Tree, node, size, nth_subtree}
 use Rattle.eq_base.specs.Pattern.{PatternCell, IsTested}
 use Rattle.eq_base.specs.Cells.{root_cell}
 use Rattle.eq_base.specs.Meeting.{CellIsTested}
