@@ -14,5 +14,6 @@ pub mod Beside
 pub mod Unmixed
 pub mod SetLaws
 pub mod Depths
+pub mod Counting
 pub mod Lasts
 pub mod LastCells
