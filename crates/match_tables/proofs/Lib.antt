@@ -15,5 +15,6 @@ pub mod Unmixed
 pub mod SetLaws
 pub mod Depths
 pub mod Counting
+pub mod Closing
 pub mod Lasts
 pub mod LastCells
