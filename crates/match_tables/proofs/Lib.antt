@@ -16,5 +16,6 @@ pub mod SetLaws
 pub mod Depths
 pub mod Counting
 pub mod Closing
+pub mod Closed
 pub mod Lasts
 pub mod LastCells
