@@ -1,16 +1,18 @@
 -- How many items the item sets of a search hold.
-use Rattle.std.proofs.Common.{◌≡◌, ◌≢◌, ℕ, suc, Some, refl, ◌+◌, ◌<◌, ◌≤◌, List, [], ◌∷◌, ◌++◌, length, slice_get, sym, ◌∙◌, ap, subst, arith, length-append, ⊎_elim}
+use Rattle.std.proofs.Common.{Result, Err, IfErr, ◌≡◌, ◌≢◌, ℕ, suc, Some, refl, ◌+◌, ◌<◌, ◌≤◌, List, [], ◌∷◌, ◌++◌, length, slice_get, sym, ◌∙◌, ap, subst, arith, length-append, ⊎_elim}
 use Rattle.eq_base.specs.RuleList.{RuleList}
 use Rattle.eq_base.specs.Pattern.{PatternCell}
 use Rattle.eq_base.specs.declared.head.Head.{Head}
 use Rattle.match_tables.specs.Items.{ItemSet}
-use Rattle.match_tables.specs.Reachable.{total_items, ArePast}
+use Rattle.match_tables.specs.Reachable.{total_items}
 use Rattle.match_tables.specs.Reachable as reachable
 use Rattle.match_tables.specs.Demand.{left_sides_of}
 use Rattle.match_tables.specs.Sets.{Interns, AreDistinct}
 use Rattle.match_tables.specs.Steps.{LeadsTo}
 use Rattle.match_tables.specs.Moving.{AreItemsOf}
-use Rattle.match_tables.specs.Searching.{Extends, IsFindable, AreFound}
+use Rattle.match_tables.specs.Searching.{Extends, IsNotAdded, IsFindable, AreFound, IsStopped}
+use Rattle.match_tables.specs.declared.search.Stop.{Stop}
+use Rattle.match_tables.specs.declared.search.Stop.TheVariants.{Past, NoMemory}
 use Rattle.match_tables.specs.declared.step.Step.{Step}
 use Rattle.match_tables.proofs.Places.{kept, old_or_last, place_from_contains}
 use Rattle.match_tables.proofs.Moved.{each_contained}
@@ -79,19 +81,24 @@ module _ (rules : RuleList) where
     there = λ e c x. ((l.exactly e c).0 x).there;
   }
 
-  module _ (old new : List ItemSet) (items : ItemSet) (number : ℕ) (f : AreFound rules old) (interns : Interns old new items number) (findable : IsFindable rules items) (distinct : AreDistinct new) where
-    pub found-added : AreItemsOf rules items → total_items new ≤ 4194304 → AreFound rules new
-    found-added are few = record {
+  module _ (old new : List ItemSet) (items : ItemSet) (f : AreFound rules old) (findable : IsFindable rules items) (distinct : AreDistinct new) where
+    pub found-added : (number : ℕ) → Interns old new items number → AreItemsOf rules items → total_items new ≤ 4194304 → AreFound rules new
+    found-added number interns are few = record {
       each = each-interned old new items number interns (AreItemsOf rules) f.each are;
       reached = each-interned old new items number interns (IsFindable rules) f.reached findable;
       distinct = distinct;
       few = few;
     }
 
-    pub past-added : 4194304 < total_items new → ArePast (in_class_of rules.classes) (left_sides_of rules) 4194304
-    past-added more = record {
+    -- a set that could not be added stops the search
+    not-added : (stop : Stop) → IsNotAdded old new items stop → IsStopped rules stop
+    not-added Past ((number, interns), more) = record {
       sets = new;
       distinct = distinct-list new distinct;
       reachable = each-listed (IsFindable rules) new (each-interned old new items number interns (IsFindable rules) f.reached findable);
       more = more;
     }
+    not-added NoMemory _ = tt
+
+    pub stopped : {X : Type 0} (r : Result X Stop) (stop : Stop) → r ≡ Err stop → IsNotAdded old new items stop → IfErr r (IsStopped rules)
+    stopped r stop is x = subst (λ r. IfErr r (IsStopped rules)) (sym is) (not-added stop x)

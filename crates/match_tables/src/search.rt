@@ -26,6 +26,10 @@ pub enum Stop {
 }
 
 impl From<NoMemory> for Stop {
+    ghost use Rattle.match_tables.specs.declared.search.Stop.TheVariants.{NoMemory};
+
+    ghost from_gives = { λ _ stop. stop ≡ NoMemory };
+
     fn from(_error: NoMemory) -> Self {
         Stop::NoMemory
     }
