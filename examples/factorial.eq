@@ -1,3 +1,4 @@
+% Factorial numbers by arithmetic on numerals.
 Symbols fact: 1; if: 3; equ: 2; multiply: 2; subtract: 2;
   include integer_numerals, truth_values.
 For all x, y:

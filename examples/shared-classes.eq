@@ -1,3 +1,4 @@
+% Two classes of the file's own that share b: there both equations give the same.
 Symbols f: 1; a: 0; b: 0; c: 0.
 Classes low: a, b; high: b, c.
 For all x:

@@ -1,3 +1,4 @@
+% Lists: their sum, and their elements in the other order.
 Symbols cons: 2; nil: 0; sum: 1; rev: 1; onto: 2; add: 2;
   include integer_numerals.
 For all x, y, z:

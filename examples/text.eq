@@ -1,3 +1,4 @@
+% Strings, numerals and atoms: joined, measured and compared.
 Symbols concat: 2; length: 1; equ: 2;
   include strings, integer_numerals, truth_values, atomic_symbols.
 For all:

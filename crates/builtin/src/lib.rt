@@ -7,6 +7,3 @@ pub mod value;
 
 pub use left::{is_schema_left, schema_left};
 pub use value::{Operand, Value, evaluate};
-
-#[cfg(test)]
-mod tests;

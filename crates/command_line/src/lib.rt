@@ -10,6 +10,3 @@ mod words;
 pub use laws::words_ask_once;
 pub use task::{Asked, Mode, Task};
 pub use words::read_words;
-
-#[cfg(test)]
-mod tests;

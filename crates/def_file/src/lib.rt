@@ -17,6 +17,3 @@ pub use definitions::{
 pub use error::FileError;
 pub use naming::symbol_of;
 pub use phases::read_definitions;
-
-#[cfg(test)]
-mod tests;

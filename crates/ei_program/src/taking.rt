@@ -5,11 +5,8 @@ ghost use Rattle.eq_ports.specs.Causes.{HasCause};
 ghost use Rattle.ei_program.specs.Taking.{IsTakenFrom, IsReadCount};
 
 use eq_base::NoMemory;
-use eq_ports::{Failed, Source};
+use eq_ports::{Source, new_piece, read_some};
 use std::alloc::Global;
-
-/// The most bytes that one read is given room for.
-const PIECE: usize = 65_536;
 
 /// How the taking of a text ended.
 #[derive(Clone, Copy, Debug, PartialEq, Eq)]
@@ -29,28 +26,8 @@ pub struct Taken {
     pub ending: Ending,
 }
 
-/// Room for one piece.
-fn new_piece(alloc: Global) -> Result<Vec<u8>, NoMemory>
-    ensures some { IfOk result (λ piece. 0 < vec_len piece) }
-{
-    let piece = vec![in alloc; 0; PIECE]?;
-    Ok(piece)
-}
-
-/// Reads into a front of the piece, of `room` bytes.
-fn read_some<S: Source>(source: &mut S, piece: &mut [u8], room: usize) -> Result<usize, Failed>
-    requires some { 0 < room }
-    requires within { room ≤ length piece.old }
-    ensures within { IfOk result (λ n. n ≤ room) }
-    ensures bytes { ReadConsumes (S.left source.old) (S.left source.new) result piece.new }
-    ensures cause { HasCause (S.faults source.old) (S.faults source.new) result }
-    ensures through { S.through source.new ≡ S.through source.old }
-{
-    source.read(&mut piece[..room])
-}
-
-/// Takes the bytes of a text to its end, to a failed read, or until `limit` bytes and one more were taken. Nothing is read
-/// after an end or a failure. Linear in the bytes that are taken.
+/// Takes the bytes of a text to its end, to a failed read, or until `limit` bytes and one more were taken.
+/// Nothing is read after an end or a failure. Linear in the bytes that are taken.
 pub fn take_up_to<S: Source>(alloc: Global, source: &mut S, limit: usize) -> Result<Taken, NoMemory>
     requires { limit ≤ 2 ^ 48 }
     ensures taken { IfOk result (IsTakenFrom limit (S.left source.old) (S.left source.new)) }

@@ -23,6 +23,3 @@ pub use numeral::push_numeral;
 pub use pattern::{Pattern, PatternMaker};
 pub use rules::{Equation, Op, Origin, Right, Rules};
 pub use view::TermView;
-
-#[cfg(test)]
-mod tests;

@@ -9,6 +9,7 @@ mod files;
 mod memory_files;
 mod memory_sink;
 mod memory_source;
+mod pieces;
 mod schedule;
 mod sink;
 mod source;
@@ -17,8 +18,6 @@ mod std_sink;
 mod std_source;
 mod sure_sink;
 mod sure_source;
-#[cfg(test)]
-mod tests;
 
 pub use failed::Failed;
 pub use file_source::FileSource;
@@ -26,6 +25,7 @@ pub use files::Files;
 pub use memory_files::MemoryFiles;
 pub use memory_sink::MemorySink;
 pub use memory_source::MemorySource;
+pub use pieces::{new_piece, read_some};
 pub use sink::{Sink, write_whole};
 pub use source::Source;
 pub use std_files::StdFiles;

@@ -11,6 +11,3 @@ pub use read::{read_pattern, read_term};
 pub use scan::skip_term;
 pub use write::write_term;
 pub use written_terms::ReadError;
-
-#[cfg(test)]
-mod tests;

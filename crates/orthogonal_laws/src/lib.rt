@@ -14,6 +14,3 @@ mod values;
 pub use next::{Next, plain_next};
 pub use past::first_past;
 pub use run::{PlainEnd, plain_run};
-
-#[cfg(test)]
-mod tests;

@@ -16,6 +16,3 @@ pub use facing::{Facing, facing_of};
 pub use pairs::{is_tested, overlaps};
 pub use single::{check_single, tell_singles};
 pub use well_formed::{MOST_CLASSES, are_well_formed};
-
-#[cfg(test)]
-mod tests;

@@ -8,6 +8,3 @@ pub mod regular;
 pub use comparison::{Comparison, compare};
 pub use order::breaks;
 pub use regular::{AdmitError, Regular};
-
-#[cfg(test)]
-mod tests;

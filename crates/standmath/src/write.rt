@@ -115,6 +115,3 @@ pub fn write_term<T: TermView>(
     }
     Ok(())
 }
-
-#[cfg(test)]
-mod tests;

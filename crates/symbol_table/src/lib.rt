@@ -12,6 +12,3 @@ pub use error::SymbolError;
 pub use interned::Interned;
 pub use symbols::{Mark, Symbols};
 pub use variables::Variables;
-
-#[cfg(test)]
-mod tests;

@@ -9,6 +9,3 @@ mod stream;
 pub use notation::{read_term, write_term};
 pub use source_state::SourceState;
 pub use stream::Stream;
-
-#[cfg(test)]
-mod tests;

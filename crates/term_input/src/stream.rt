@@ -7,12 +7,9 @@ ghost use Rattle.term_input.specs.Streams.{nothing_held, taken_count, MayTake, T
 
 use crate::source_state::SourceState;
 use eq_base::NoMemory;
-use eq_ports::{Failed, Source};
+use eq_ports::{Source, new_piece, read_some};
 use std::alloc::Global;
 use std::marker::Model;
-
-/// The most bytes that one read is given room for.
-const PIECE: usize = 65_536;
 
 /// The bytes that were taken of an input and not given up.
 #[derive(Drop)]
@@ -41,27 +38,6 @@ impl Model for Stream {
 
     ghost invariant = { λ s. (s.start ≤ vec_len s.bytes) × (0 < vec_len s.piece)
         × (s.place + vec_len s.bytes ≤ s.start + (s.limit + 1)) × (s.limit ≤ 2 ^ 40) };
-}
-
-/// Room for one piece.
-fn new_piece(alloc: Global) -> Result<Vec<u8>, NoMemory>
-    ensures some { IfOk result (λ piece. 0 < vec_len piece) }
-{
-    let piece = vec![in alloc; 0; PIECE]?;
-    Ok(piece)
-}
-
-/// Reads into a front of the piece, of `room` bytes.
-fn read_some<S: Source>(source: &mut S, piece: &mut [u8], room: usize) -> Result<usize, Failed>
-    requires some { 0 < room }
-    requires within { room ≤ length piece.old }
-    ensures within { IfOk result (λ n. n ≤ room) }
-    ensures bytes { ReadConsumes (S.left source.old) (S.left source.new) result piece.new }
-    ensures cause { HasCause (S.faults source.old) (S.faults source.new) result }
-    ensures through { S.through source.new ≡ S.through source.old }
-    ensures len { length piece.new ≡ length piece.old }
-{
-    source.read(&mut piece[..room])
 }
 
 /// Drops the first bytes.

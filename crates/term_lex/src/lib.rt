@@ -14,6 +14,3 @@ pub use scan::{gap_len, next_token};
 pub use string::string_value;
 pub use syntax::Syntax;
 pub use token::{Token, TokenKind};
-
-#[cfg(test)]
-mod tests;

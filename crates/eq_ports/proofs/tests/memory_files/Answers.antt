@@ -1,7 +1,0 @@
-use Rattle.std.proofs.Common.{rules}
-use Rattle.std.specs.List.{IsDistinct}
-use Rattle.eq_ports.proofs.tests.memory_files.Goals as goal
-
-pub new-requires-clause-distinct : goal.new-requires-clause-distinct
-unfolding IsDistinct
-new-requires-clause-distinct c = rw c.in_ok-list.ensures.items (search rules)
