@@ -1,14 +1,17 @@
 -- The steps of the example: each can be made, and leads to these trees.
-use Rattle.std.proofs.Common.{◌≡◌, ℕ, zero, suc, ◌≤◌, ◌++◌, List, [], ◌∷◌, Bool, length, Some, refl, sym, ◌∙◌, ap, subst, arith}
+use Rattle.std.proofs.Common.{◌≡◌, ℕ, zero, suc, ◌≤◌, ◌++◌, List, [], ◌∷◌, Bool, length, map, Some, refl, sym, ◌∙◌, ap, subst, arith}
 use Rattle.std.specs.Prelude.{slice_get}
-use Rattle.eq_base.specs.Tree.{Tree, node, empty, grow}
+use Rattle.eq_base.specs.Tree.{Tree, node, empty, grow, cells}
+use Rattle.eq_base.specs.Cells.{tree_cell}
+use Rattle.eq_base.specs.declared.head.Cell.{Cell}
+use Rattle.eq_base.proofs.Trees.{cells-injective}
 use Rattle.eq_base.specs.RuleList.{RuleList}
 use Rattle.eq_base.specs.declared.head.Head.{Head}
 use Rattle.graph_laws.specs.Numbered.{Numbered, plain}
 use Rattle.graph_laws.specs.Replacing.{MeetsWith, replace_in_all, IsReplacement}
 use Rattle.term_graph.specs.Graph.{Graph}
 use Rattle.term_graph.specs.Sides.{HasSides, CanReplace}
-use Rattle.graph_tests.specs.AdditionStores.{zero_left, successor_left, successor_right, first_variable, zero_equation, successor_equation, addition_rules, zero_head, numbered_successor, numbered_plus, second, third, fourth, start_trees, one_step, two_steps, three_steps, plus_head}
+use Rattle.graph_tests.specs.AdditionStores.{Pattern, equation_of, zero_left, successor_left, successor_right, first_variable, zero_equation, successor_equation, addition_rules, zero_head, numbered_successor, numbered_plus, second, third, fourth, start_trees, one_step, two_steps, three_steps, plus_head}
 
 pub zero_sides : HasSides addition_rules 0 zero_left first_variable
 zero_sides = record { equation = zero_equation; listed = refl; left_is = refl; right_is = refl }
@@ -90,3 +93,20 @@ second_leads ts after e x = after_successor one_step after 6 6 2 third fourth re
 
 pub third_leads : (ts after : List (Numbered Head)) → ts ≡ two_steps → IsReplacement zero_left first_variable 7 ts after → after ≡ three_steps
 third_leads ts after e x = after_zero two_steps after 7 7 3 fourth refl (subst (λ l. IsReplacement zero_left first_variable 7 l after) e x)
+
+-- ---- sides from their cells
+
+pub one_pushed : {A : Type 0} (start one : List A) (a : A) → start ≡ [] → one ≡ start ++ a ∷ [] → one ≡ a ∷ []
+one_pushed start one a e e' = e' ∙ ap (λ l. l ++ a ∷ []) e
+
+pub three_pushed : {A : Type 0} (start one two three : List A) (a b c : A) → start ≡ [] → one ≡ start ++ a ∷ [] → two ≡ one ++ b ∷ [] → three ≡ two ++ c ∷ [] → three ≡ a ∷ b ∷ c ∷ []
+three_pushed start one two three a b c e x y z = z ∙ ap (λ l. l ++ c ∷ []) (y ∙ ap (λ l. l ++ b ∷ []) (one_pushed start one a e x))
+
+pub four_pushed : {A : Type 0} (start one two three four : List A) (a b c d : A) → start ≡ [] → one ≡ start ++ a ∷ [] → two ≡ one ++ b ∷ [] → three ≡ two ++ c ∷ [] → four ≡ three ++ d ∷ [] → four ≡ a ∷ b ∷ c ∷ d ∷ []
+four_pushed start one two three four a b c d e w x y z = z ∙ ap (λ l. l ++ d ∷ []) (three_pushed start one two three a b c e w x y)
+
+pub finished : (p q : Pattern) (cs ds : List Cell) → cells p ≡ map tree_cell cs → cs ≡ ds → map tree_cell ds ≡ cells q → p ≡ q
+finished p q cs ds e same e' = cells-injective p q (e ∙ ap (map tree_cell) same ∙ e')
+
+pub equation_same : (left left' right right' : Pattern) (item : ℕ) → left ≡ left' → right ≡ right' → equation_of left right item ≡ equation_of left' right' item
+equation_same left left' right right' item e e' = ap (λ p. equation_of p right item) e ∙ ap (λ p. equation_of left' p item) e'

@@ -42,21 +42,21 @@ abbrev pub successor_right : Pattern
 successor_right = node (fixed successor_head)
     (grow (node (fixed plus_head) (grow first_variable (grow second_variable empty))) empty)
 
+-- an item with these sides
+abbrev pub equation_of : (left right : Pattern) → (item : ℕ) → Equation
+equation_of left right item = record {
+  left = left;
+  right = rights.Tree right;
+  origin = record { item = item; part = 0 };
+}
+
 -- plus(z, x) = x
 abbrev pub zero_equation : Equation
-zero_equation = record {
-  left = zero_left;
-  right = rights.Tree first_variable;
-  origin = record { item = 1; part = 0 };
-}
+zero_equation = equation_of zero_left first_variable 1
 
 -- plus(s(x), y) = s(plus(x, y))
 abbrev pub successor_equation : Equation
-successor_equation = record {
-  left = successor_left;
-  right = rights.Tree successor_right;
-  origin = record { item = 2; part = 0 };
-}
+successor_equation = equation_of successor_left successor_right 2
 
 abbrev pub addition_rules : RuleList
 addition_rules = record { classes = []; equations = zero_equation ∷ successor_equation ∷ [] }

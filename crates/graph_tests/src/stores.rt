@@ -1,8 +1,8 @@
 // Stores: the numbers of nodes, sizes, numerals.
-ghost use Rattle.std.specs.Prelude.{◌≡◌, IfOk};
+ghost use Rattle.std.specs.Prelude.{◌≡◌, ◌≤◌, ◌+◌, IfOk};
 ghost use Rattle.eq_base.specs.Cells.{CellTakesArguments};
 ghost use Rattle.eq_base.specs.declared.rules.Equation.{Equation};
-ghost use Rattle.graph_tests.specs.AdditionStores.{two_and_one, zero_equation, successor_equation, addition_rules};
+ghost use Rattle.graph_tests.specs.AdditionStores.{two_and_one, zero_equation, successor_equation, addition_rules, start_trees, one_step, two_steps, three_steps};
 
 use eq_base::{
     Cell, Classes, Equation, Flat, FlatMaker, Head, NoMemory, Origin, Pattern, PatternMaker, Right,
@@ -114,6 +114,68 @@ fn argument(store: &Store, node: usize, i: usize) -> Option<usize> {
     }
 }
 
+// Node 0 is replaced by the second equation.
+fn first_step(store: &mut Store, regular: &Regular) -> Made
+    requires same { regular.now ≡ addition_rules }
+    requires trees { store.old.trees ≡ start_trees }
+    requires room { 4 ≤ store.old.spare }
+    ensures trees { store.new.trees ≡ one_step }
+    ensures spare { store.old.spare ≤ store.new.spare + 4 }
+{
+    store.replace(regular, 0, 1)
+}
+
+// Node 6 is replaced by the second equation.
+fn second_step(store: &mut Store, regular: &Regular) -> Made
+    requires same { regular.now ≡ addition_rules }
+    requires trees { store.old.trees ≡ one_step }
+    requires room { 4 ≤ store.old.spare }
+    ensures trees { store.new.trees ≡ two_steps }
+    ensures spare { store.old.spare ≤ store.new.spare + 4 }
+{
+    store.replace(regular, 6, 1)
+}
+
+// Node 7 is replaced by the first equation.
+fn third_step(store: &mut Store, regular: &Regular) -> Made
+    requires same { regular.now ≡ addition_rules }
+    requires trees { store.old.trees ≡ two_steps }
+    requires room { 1 ≤ store.old.spare }
+    ensures trees { store.new.trees ≡ three_steps }
+{
+    store.replace(regular, 7, 0)
+}
+
+// Whether a node has these arguments.
+fn has_arguments(store: &Store, node: usize, arguments: &[usize]) -> bool {
+    for (i, wanted) in arguments.iter().enumerate() {
+        if argument(store, node, i) != Some(*wanted) {
+            return false;
+        }
+    }
+    true
+}
+
+// Whether the nodes have the numbers of the example after each of its steps.
+fn is_numbered(store: &mut Store, regular: &Regular) -> bool
+    requires same { regular.now ≡ addition_rules }
+    requires trees { store.old.trees ≡ start_trees }
+    requires room { 9 ≤ store.old.spare }
+{
+    let first = first_step(store, regular);
+    let after_first = has_arguments(store, 0, &[6]) && has_arguments(store, 6, &[2, 4]);
+    let second = second_step(store, regular);
+    let after_second = has_arguments(store, 6, &[7]) && has_arguments(store, 7, &[3, 4]);
+    let third = third_step(store, regular);
+    let after_third = has_arguments(store, 6, &[4]) && store.len() == 8;
+    first == Made { first: 6, made: 1 }
+        && second == Made { first: 7, made: 1 }
+        && third == Made { first: 8, made: 0 }
+        && after_first
+        && after_second
+        && after_third
+}
+
 #[test]
 fn new_nodes_have_the_next_numbers(rt: HostRuntime) -> Result<(), Fail> {
     let rules = addition(rt.alloc())?;
@@ -125,16 +187,7 @@ fn new_nodes_have_the_next_numbers(rt: HostRuntime) -> Result<(), Fail> {
     };
     let mut store = Store::from_flat(rt.alloc(), &sum(rt.alloc())?)?;
     store.reserve(9)?;
-    assert_eq!(rt; store.replace(&regular, 0, 1), Made { first: 6, made: 1 });
-    assert_eq!(rt; argument(&store, 0, 0), Some(6));
-    assert_eq!(rt; argument(&store, 6, 0), Some(2));
-    assert_eq!(rt; argument(&store, 6, 1), Some(4));
-    assert_eq!(rt; store.replace(&regular, 6, 1), Made { first: 7, made: 1 });
-    assert_eq!(rt; argument(&store, 6, 0), Some(7));
-    assert_eq!(rt; argument(&store, 7, 0), Some(3));
-    assert_eq!(rt; store.replace(&regular, 7, 0), Made { first: 8, made: 0 });
-    assert_eq!(rt; argument(&store, 6, 0), Some(4));
-    assert_eq!(rt; store.len(), 8);
+    assert!(rt; is_numbered(&mut store, &regular));
     Ok(())
 }
 
@@ -158,7 +211,10 @@ fn numerals_are_put_whole(rt: HostRuntime) -> Result<(), Fail> {
         if store.len() == 0 || store.follow(0) != 0 {
             panic!(rt; "node 0 is no indirection");
         }
-        assert_eq!(rt; store.put(0, Head::Numeral(value)), Made { first: 6, made: 0 });
+        assert_eq!(rt;
+            store.put(0, Head::Numeral(value)),
+            Made { first: 6, made: 0 }
+        );
         if store.len() > 0 {
             assert_eq!(rt; store.head(0), Head::Numeral(value));
         }
