@@ -20,7 +20,9 @@ const S: Head = Head::Symbol(3);
 
 const PLUS: Head = Head::Symbol(4);
 
-const CONS: Head = Head::Symbol(5);
+const NIL: u32 = 5;
+
+const CONS: u32 = 6;
 
 // plus(z, x) = x
 fn zero_equation(alloc: Global) -> Result<Equation, NoMemory>
@@ -84,20 +86,22 @@ fn sum(alloc: Global) -> Result<Flat, NoMemory>
     Ok(maker.finish())
 }
 
+// Pushes a symbol over its arguments, where a term is missing.
+fn push(maker: &mut FlatMaker, symbol: u32, arity: u8) -> Result<(), NoMemory> {
+    if maker.missing() > 0 {
+        maker.push_cell(Head::Symbol(symbol), arity)?;
+    }
+    Ok(())
+}
+
 // A list of so many constants.
 fn list(alloc: Global, len: u32) -> Result<Option<Flat>, NoMemory> {
     let mut maker = FlatMaker::new(alloc);
     for _ in 0..len {
-        if maker.missing() == 0 {
-            return Ok(None);
-        }
-        maker.push_cell(CONS, 2)?;
-        maker.push_cell(Z, 0)?;
+        push(&mut maker, CONS, 2)?;
+        push(&mut maker, NIL, 0)?;
     }
-    if maker.missing() == 0 {
-        return Ok(None);
-    }
-    maker.push_cell(Z, 0)?;
+    push(&mut maker, NIL, 0)?;
     Ok(if maker.missing() == 0 {
         Some(maker.finish())
     } else {
