@@ -1,6 +1,6 @@
 // What a reading by item sets finds, and that it may go on after a replacement: each is the contract of a
 // function that does nothing.
-ghost use Rattle.std.specs.Prelude.{◌≡◌, ◌↔◌, ℕ, ◌<◌, List, Option, [], ◌++◌, Some, slice_get};
+ghost use Rattle.std.specs.Prelude.{◌≡◌, ◌↔◌, ℕ, ◌<◌, ◌≤◌, List, length, Option, [], ◌++◌, Some, slice_get};
 ghost use Rattle.eq_base.specs.Tree.{Tree, Forest, node, empty, grow, Position};
 ghost use Rattle.eq_base.specs.Storing.{join};
 ghost use Rattle.eq_base.specs.Pattern.{PatternCell};
@@ -16,7 +16,7 @@ ghost use Rattle.symbol_table.specs.Reading.{read_head, read, read_pattern, read
 ghost use Rattle.sequentiality.specs.Regular.{AreRegular};
 ghost use Rattle.orthogonal_laws.specs.Readings.{AreRegularIn};
 ghost use Rattle.orthogonal_laws.specs.Orthogonal.{IsOrthogonal, IsLawful};
-ghost use Rattle.orthogonal_laws.specs.Strategy.{IsDemandedRedex, HasNoDemandedRedex, IsNext};
+ghost use Rattle.orthogonal_laws.specs.Strategy.{IsDemandedRedex, HasNoDemandedRedex, IsNext, HasLength};
 ghost use Rattle.match_laws.specs.Items.{ItemSet, IsRead, IsSkip, IsCompleted, IsFirstCompleted};
 ghost use Rattle.match_laws.specs.Items.{WantsRead, WantsSkip, WantsNothing};
 ghost use Rattle.match_laws.specs.Reading.{KeepArities};
@@ -24,7 +24,8 @@ ghost use Rattle.match_laws.specs.Demand.{left_sides, left_sides_of, HasFixedAri
 ghost use Rattle.graph_laws.specs.Numbered.{Numbered, plain, root_number, AreShared};
 ghost use Rattle.graph_laws.specs.Replacing.{IsReplacement};
 ghost use Rattle.machine_laws.specs.ReadTrees.{with_heads, read_trees};
-ghost use Rattle.graph_laws.specs.Runs.{IsPut, IsReplaced, IsNextNode, GraphRun};
+ghost use Rattle.graph_laws.specs.Runs.{IsPut, IsReplaced, ReplacementList, IsNextNode, GraphRun};
+ghost use Rattle.graph_laws.specs.SharedRuns.{SharedRun, StandsFor, IsOnlyNormalForm, HaveConstantValues};
 ghost use Rattle.machine_laws.specs.Places.{Place, arriving, ended, Turn};
 ghost use Rattle.machine_laws.specs.Work.{work};
 ghost use Rattle.machine_laws.specs.MachineRuns.{KeepAll, ReplacementsKeep, RightsKeep, MachineRun};
@@ -221,6 +222,31 @@ pub fn machine_makes_graph_run<H>()
         → (n : ℕ) (now : List (Numbered H)) (v : Numbered H)
         → MachineRun system trees (arriving [] t) n now (ended v) → (slice_get now root ≡ Some v)
         × IsNormal system (plain v) }
+{}
+
+/// Where the machine ends, the root's tree is the only normal form of the term, and no list of replacements after
+/// which the root stands for a normal form is shorter. Where a redex is left, it has made as many shared steps, and
+/// the plain run is longer.
+pub fn machine_answers<H>()
+    ensures only { (system : System H) → IsLawful system → (arity : H → ℕ) → HasFixedArities system arity
+        → RightsKeep system arity → (root : ℕ) (trees : List (Numbered H)) (t : Numbered H) → AreShared trees
+        → KeepAll arity trees → slice_get trees root ≡ Some t → (n : ℕ)
+        (now : List (Numbered H)) (v : Numbered H) → MachineRun system trees (arriving [] t) n now (ended v)
+        → IsOnlyNormalForm system (plain t) n (plain v) }
+    ensures shortest { (system : System H) → IsLawful system → (arity : H → ℕ) → HasFixedArities system arity
+        → RightsKeep system arity → (root : ℕ) (trees : List (Numbered H)) (t : Numbered H) → AreShared trees
+        → KeepAll arity trees → slice_get trees root ≡ Some t
+        → HaveConstantValues system → (n : ℕ) (now : List (Numbered H)) (v : Numbered H)
+        → MachineRun system trees (arriving [] t) n now (ended v) → (others : List (Numbered H))
+        (ns : List ℕ) (u : Tree H) → ReplacementList system trees ns others → StandsFor others root u
+        → IsNormal system u → n ≤ length ns }
+    ensures spent { (system : System H) → IsLawful system → (arity : H → ℕ) → HasFixedArities system arity
+        → RightsKeep system arity → (root : ℕ) (trees : List (Numbered H)) (t : Numbered H) → AreShared trees
+        → KeepAll arity trees → slice_get trees root ≡ Some t → (n : ℕ)
+        (now : List (Numbered H)) (place : Place H) → MachineRun system trees (arriving [] t) n now place
+        → (u : Tree H) → StandsFor now root u → (IsNormal system u → ⊥)
+        → SharedRun system (plain t) n u
+        × ((v : Tree H) (m : ℕ) → HasLength system (plain t) m v → n < m) }
 {}
 
 /// Each turn of the machine's loop leaves less work, so there are finitely many between two replacements.
