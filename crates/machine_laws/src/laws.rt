@@ -154,8 +154,8 @@ pub fn equations_keep()
         → RightsKeep (system_of value_of rules) regular.well_formed.arity }
 {}
 
-/// Regular equations of a table whose right sides have the fixed numbers of arguments keep these numbers as they
-/// are read, with the operations: so the laws of the machine hold of them.
+/// Regular equations of a table whose right sides have the fixed numbers of arguments keep these numbers as
+/// they are read, with the operations: so the laws of the machine hold of them.
 pub fn read_equations_keep()
     ensures { (table : Table) (rules : RuleList) → (regular : AreRegularIn table rules)
         → HaveRightArities regular.regular.well_formed.arity rules → (arity : ReadHead → ℕ)
@@ -164,8 +164,8 @@ pub fn read_equations_keep()
         → arity (read_head table h) ≡ regular.regular.well_formed.arity h) }
 {}
 
-/// Where a table has one number for each name, item sets by number are those of the equations as they are read:
-/// the same sets are wanted, and live heads lead from one to the next and complete the same left sides.
+/// Where a table has one number for each name, item sets by number are those of the equations as they are
+/// read: the same is wanted, and live heads lead from one to the next and complete the same left sides.
 pub fn sets_are_read()
     ensures reads { (table : Table) → HasOneNumberEach table → (rules : RuleList) → AreLive table rules
         → (items next : ItemSet) (h : Head) → IsLiveHead table h
@@ -193,7 +193,8 @@ pub fn sets_are_read()
         ↔ WantsSkip (left_sides (read_system table rules)) items }
 {}
 
-/// Replacements in a store are those in the store as it is read, and shared trees are shared as they are read.
+/// Replacements in a store are those in the store as it is read, and shared trees are shared as they are
+/// read.
 pub fn stores_are_read()
     ensures pattern { (table : Table) (left right : Tree (PatternCell Head)) (n : ℕ)
         (trees after : List (Numbered Head)) → IsReplacement left right n trees after
@@ -224,9 +225,9 @@ pub fn machine_makes_graph_run<H>()
         × IsNormal system (plain v) }
 {}
 
-/// Where the machine ends, the root's tree is the only normal form of the term, and no list of replacements after
-/// which the root stands for a normal form is shorter. Where a redex is left, it has made as many shared steps, and
-/// the plain run is longer.
+/// Where the machine ends, the root's tree is the only normal form of the term, and no list of replacements
+/// after which the root stands for a normal form is shorter. Where a redex is left, it has made as many
+/// shared steps, and the plain run is longer.
 pub fn machine_answers<H>()
     ensures only { (system : System H) → IsLawful system → (arity : H → ℕ) → HasFixedArities system arity
         → RightsKeep system arity → (root : ℕ) (trees : List (Numbered H)) (t : Numbered H) → AreShared trees
