@@ -24,6 +24,7 @@ fn tell_one(watch: &mut Box<dyn Watch>, event: Event) -> Result<(), NoMemory>
 pub fn tell(watch: &mut Vec<Box<dyn Watch>>, on: &[bool], event: Event) -> Result<(), NoMemory>
     requires { length on.now ≡ vec_len watch.old }
     ensures ok { OnOk result (map state watch.new.items ≡ told on.now (event ∷ []) (map state watch.old.items)) }
+    ensures count { vec_len watch.new ≡ vec_len watch.old }
     ensures err { OnErr result
         (ToldFronts on.now (event ∷ []) (map state watch.old.items) (map state watch.new.items)) }
 {
@@ -45,7 +46,8 @@ fn clear_one(watch: &mut Box<dyn Watch>)
 /// Clears each watch that is turned on.
 pub fn clear_each(watch: &mut Vec<Box<dyn Watch>>, on: &[bool])
     requires { length on.now ≡ vec_len watch.old }
-    ensures { map state watch.new.items ≡ cleared_each on.now (map state watch.old.items) }
+    ensures cleared { map state watch.new.items ≡ cleared_each on.now (map state watch.old.items) }
+    ensures count { vec_len watch.new ≡ vec_len watch.old }
 {
     for (i, is_cleared) in on.iter().enumerate() {
         if *is_cleared {
@@ -98,6 +100,7 @@ pub fn named(
     watch: &Vec<Box<dyn Watch>>,
     name: &str,
 ) -> Result<Option<Vec<bool>>, NoMemory>
+    ensures count { IfOk result (λ found. IfSome found (λ on. vec_len on ≡ vec_len watch.now)) }
     ensures known { IfOk result (λ found. is_some found ≡ is_watch_name name.now (map state watch.now.items)) }
     ensures on { IfOk result (λ found. IfSome found
         (λ on. on.items ≡ map (is_turned_on name.now) (map state watch.now.items))) }
