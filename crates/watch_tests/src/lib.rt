@@ -1,4 +1,4 @@
-// Tests.
+// Tests of the watches, over events that are made by hand.
 #![tactic(auto)]
 
 #[cfg(test)]
