@@ -8,6 +8,8 @@ pub mod Named
 pub mod Looked
 pub mod Extending
 pub mod Fresh
+pub mod Naming
+pub mod Inserted
 pub mod Fronts
 pub mod Meeting
 pub mod Passing

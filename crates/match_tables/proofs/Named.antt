@@ -154,7 +154,7 @@ module _ (rules : RuleList) (w : AreWellFormed rules) (items : ItemSet) (heads :
       not-named e c cell held i n =
           ⊎_elim
           (λ z. at-root e cell (subst (λ k. IsCell (left_sides_of rules) e k cell) z i) n)
-          (λ x. none (named e c cell x i h n))
+          (λ x. none (named e c x cell i h n))
           held
 
   -- no item below the roots is met by a symbol that is not named
@@ -162,7 +162,7 @@ module _ (rules : RuleList) (w : AreWellFormed rules) (items : ItemSet) (heads :
   symbol-none s none e c more m =
       ⊎_elim
       (λ z. omega (arith, z, more))
-      (λ x. none (named e c m.cell x m.is_cell (Symbol s) (symbol-named rules.classes s m.cell m.tested m.meets)))
+      (λ x. none (named e c x m.cell m.is_cell (Symbol s) (symbol-named rules.classes s m.cell m.tested m.meets)))
       m.held.1
 
 -- ---- the moves of a row

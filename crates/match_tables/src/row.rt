@@ -1,8 +1,10 @@
 // Where the heads lead from one state.
-ghost use Rattle.std.specs.Prelude.{◌≡◌, ◌+◌, ◌<◌, ◌≤◌, length, slice_get, Some, IfOk, IfErr, OnOk};
+ghost use Rattle.std.specs.Prelude.{◌≡◌, ◌+◌, ◌<◌, ◌≤◌, length, slice_get, Some, Contains, IfOk, IfErr, OnOk};
 ghost use Rattle.eq_base.specs.Cells.{kind_of};
 ghost use Rattle.eq_base.specs.ClassLists.{members_of};
+ghost use Rattle.eq_base.specs.Meeting.{class_number};
 ghost use Rattle.eq_base.specs.RuleList.{RuleList};
+ghost use Rattle.match_tables.specs.declared.step.Step.TheVariants.{Other};
 ghost use Rattle.regularity.specs.WellFormed.{AreWellFormed};
 ghost use Rattle.match_tables.specs.Items.{ItemSet};
 ghost use Rattle.match_tables.specs.Moving.{AreItemsOf};
@@ -110,7 +112,9 @@ pub fn state_of(
 }
 
 // The read of a head of a class that is named nowhere.
-fn other(class: SymbolClass) -> Step {
+fn other(class: SymbolClass) -> Step
+    ensures { result ≡ Other (class_number class) }
+{
     Step::Other(class.number())
 }
 
@@ -153,13 +157,13 @@ fn push_named(heads: &mut IndexSet<Head>, classes: &Classes, cell: Cell) -> Resu
 {
     match cell {
         Cell::Head(head, _) => {
-            heads.insert(head)?;
+            push_head(heads, head)?;
         }
         Cell::Var(_) => {}
         Cell::Class(_, class) => {
             if class == SymbolClass::TruthValues.number() {
-                heads.insert(Head::Symbol(0))?;
-                heads.insert(Head::Symbol(1))?;
+                push_head(heads, Head::Symbol(0))?;
+                push_head(heads, Head::Symbol(1))?;
             } else if class >= FIRST_CLASS && ((class - FIRST_CLASS) as usize) < classes.len() {
                 push_members(heads, classes, class)?;
             }
@@ -176,8 +180,17 @@ fn push_members(heads: &mut IndexSet<Head>, classes: &Classes, class: u8) -> Res
     ensures keeps { OnOk result (Keeps heads.old.keys heads.new.keys) }
 {
     for number in 0..classes.members(class) {
-        heads.insert(classes.member(class, number))?;
+        push_head(heads, classes.member(class, number))?;
     }
+    Ok(())
+}
+
+// Adds a head, if it is new.
+fn push_head(heads: &mut IndexSet<Head>, head: Head) -> Result<(), NoMemory>
+    ensures has { OnOk result (Contains heads.new.keys head) }
+    ensures keeps { OnOk result (Keeps heads.old.keys heads.new.keys) }
+{
+    heads.insert(head)?;
     Ok(())
 }
 
