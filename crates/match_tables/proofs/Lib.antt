@@ -4,6 +4,12 @@ pub mod Moved
 pub mod Firsts
 pub mod Holding
 pub mod Rights
+pub mod Named
+pub mod Looked
+pub mod Extending
+pub mod Fresh
+pub mod Naming
+pub mod Inserted
 pub mod Fronts
 pub mod Meeting
 pub mod Passing

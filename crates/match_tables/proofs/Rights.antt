@@ -2,13 +2,15 @@
 use Rattle.std.proofs.Common.{◌≡◌, ℕ, List, [], Option, Some, None, slice_get, sym, subst, arith, inl, ⊎_elim}
 use Rattle.std.proofs.lemmas.Bool.{cases_lt}
 use Rattle.std.proofs.lemmas.Option.{slice_get_within}
-use Rattle.eq_base.specs.Meeting.{in_symbol_class}
+use Rattle.eq_base.specs.Meeting.{in_class_of}
+use Rattle.eq_base.specs.RuleList.{RuleList}
+use Rattle.match_tables.specs.Demand.{left_sides_of}
 use Rattle.eq_base.specs.declared.head.Head.{Head}
-use Rattle.eq_base.specs.declared.rules.Equation.{Equation}
 use Rattle.match_tables.specs.Items.{ItemSet, IsMet, IsRead, IsCompleted, IsFirstCompleted, IsDepth}
 use Rattle.match_tables.specs.Steps.{IsMoved, LeadsTo}
 use Rattle.match_tables.specs.Completing.{AreEnds, CompletesAt, IsCompletedBy, IsAnswered}
-use Rattle.match_tables.specs.Tabled.{StandsFor, lefts_in, MeetsNone, IsRight, ReadLeads}
+use Rattle.match_tables.specs.Rows.{MeetsNone, IsRight}
+use Rattle.match_tables.specs.Answering.{StandsFor, ReadLeads}
 use Rattle.match_tables.specs.declared.step.Step as steps
 use Rattle.match_tables.specs.declared.step.Step.TheVariants.{Read}
 use Rattle.match_tables.specs.declared.search.Move.{Move}
@@ -27,7 +29,7 @@ module _ (rules : RuleList) (sets : List ItemSet) (items : ItemSet) (head : Head
   met-moved : (e c : ℕ) → IsMet (in_class_of rules.classes) (left_sides_of rules) items head e c → IsMoved rules items (Read head) e c
   met-moved e c m = record { held = m.held; cell = m.cell; is_cell = m.is_cell; moves = (m.tested, m.meets) }
 
-  leads-read : (next : ItemSet) → LeadsTo rules items (Read head) next → IsRead (in_class_of rules.classes) (left_sides_of rules) items head next
+  pub leads-read : (next : ItemSet) → LeadsTo rules items (Read head) next → IsRead (in_class_of rules.classes) (left_sides_of rules) items head next
   leads-read next l = record {
     ordered = l.ordered;
     exactly = λ e c. (
@@ -66,7 +68,7 @@ module _ (rules : RuleList) (sets : List ItemSet) (items : ItemSet) (head : Head
 
   -- ---- by the roots alone
 
-  moved-root : MeetsNone rules sets items head → (e c : ℕ) → IsMoved rules items (Read head) e c → IsMoved rules [] (Read head) e c
+  moved-root : MeetsNone rules items head → (e c : ℕ) → IsMoved rules items (Read head) e c → IsMoved rules [] (Read head) e c
   moved-root none e c m =
       ⊎_elim
       (λ more. absurd (none e c more (moved-met e c m)))
@@ -76,7 +78,7 @@ module _ (rules : RuleList) (sets : List ItemSet) (items : ItemSet) (head : Head
   root-moved : (e c : ℕ) → IsMoved rules [] (Read head) e c → IsMoved rules items (Read head) e c
   root-moved e c m = record { held = (m.held.0, ⊎_elim (λ z. inl z) (λ x. absurd (omega (arith, x.1))) m.held.1); cell = m.cell; is_cell = m.is_cell; moves = m.moves }
 
-  pub root-leads : MeetsNone rules sets items head → (next : ItemSet) → LeadsTo rules [] (Read head) next → LeadsTo rules items (Read head) next
+  pub root-leads : MeetsNone rules items head → (next : ItemSet) → LeadsTo rules [] (Read head) next → LeadsTo rules items (Read head) next
   root-leads none next l = record {
     ordered = l.ordered;
     exactly = λ e c. (
@@ -85,7 +87,7 @@ module _ (rules : RuleList) (sets : List ItemSet) (items : ItemSet) (head : Head
     );
   }
 
-  by-root : MeetsNone rules sets items head → (e c : ℕ) → IsCompletedBy rules items (Read head) e c → IsCompletedBy rules [] (Read head) e c
+  by-root : MeetsNone rules items head → (e c : ℕ) → IsCompletedBy rules items (Read head) e c → IsCompletedBy rules [] (Read head) e c
   by-root none e c x =
       ⊎_elim
       (λ more. absurd (none e c more (by-completed e c x).met))
@@ -95,12 +97,12 @@ module _ (rules : RuleList) (sets : List ItemSet) (items : ItemSet) (head : Head
   root-by : (e c : ℕ) → IsCompletedBy rules [] (Read head) e c → IsCompletedBy rules items (Read head) e c
   root-by e c x = (⊎_elim (λ z. inl z) (λ y. absurd (omega (arith, y.1))) x.0, x.1)
 
-  root-answered : MeetsNone rules sets items head → (first : Option ℕ) → IsAnswered rules [] (Read head) first → IsAnswered rules items (Read head) first
+  root-answered : MeetsNone rules items head → (first : Option ℕ) → IsAnswered rules [] (Read head) first → IsAnswered rules items (Read head) first
   root-answered none None a = λ e c x. a e c (by-root none e c x)
   root-answered none (Some f) a = ((a.0.0, root-by f a.0.0 a.0.1), λ k c less x. a.1 k c less (by-root none k c x))
 
   -- where no item below the roots is met, a head leads where it leads from the roots alone
-  pub root-right : MeetsNone rules sets items head → (to : Move) → IsRight rules sets [] (Read head) to → IsRight rules sets items (Read head) to
+  pub root-right : MeetsNone rules items head → (to : Move) → IsRight rules sets [] (Read head) to → IsRight rules sets items (Read head) to
   root-right none to r = record { set = r.set; stands = r.stands; leads = root-leads none r.set r.leads; completed = root-answered none to.completed r.completed }
 
 -- a symbol that stands at no root leads to the roots alone
@@ -118,7 +120,7 @@ nowhere-right rules sets head start none = record {
 -- the depth of a completed cell is that of the last tested one
 pub depth-at : (rules : RuleList) (ends : List End) → AreEnds rules ends → (by : steps.Step) (e c height : ℕ) → ((end : End) → slice_get ends e ≡ Some end → height ≡ end.height) → CompletesAt rules by e c → IsDepth (left_sides_of rules) e c height
 depth-at rules ends are by e c height is x =
-    let below = slice_get_within rules e x.is_cell.left x.is_cell.listed in
+    let below = slice_get_within (left_sides_of rules) e x.is_cell.left x.is_cell.listed in
     let end = element-at ends e (omega (arith, below, are.lengths)) in
     let at = are.each e end.0 end.1 in
     subst (λ n. IsDepth (left_sides_of rules) e c n) (sym (is end.0 end.1)) (subst (λ n. IsDepth (left_sides_of rules) e n end.0.height) (sym (end-cell rules by e c end.0 at x)) at.depth)

@@ -41,7 +41,7 @@ IsPlaceIn heads head (Some place) = slice_get heads place ≡ Some head
 module _ (rules : RuleList) where
   -- each head that the cell of an item names stands in the list
   abbrev pub HaveNamed : ItemSet → List Head → Type 0
-  HaveNamed items heads = (e c : ℕ) (cell : PatternCell Head) → Contains items (e, c)
+  HaveNamed items heads = (e c : ℕ) → Contains items (e, c) → (cell : PatternCell Head)
       → IsCell (left_sides_of rules) e c cell → HasNamed rules.classes cell heads
 
   -- no item below the roots is met by the head

@@ -1,8 +1,10 @@
 // Where the heads lead from one state.
-ghost use Rattle.std.specs.Prelude.{◌≡◌, ◌+◌, ◌<◌, ◌≤◌, length, slice_get, Some, IfOk, IfErr, OnOk};
+ghost use Rattle.std.specs.Prelude.{◌≡◌, ◌+◌, ◌<◌, ◌≤◌, length, slice_get, Some, Contains, IfOk, IfErr, OnOk};
 ghost use Rattle.eq_base.specs.Cells.{kind_of};
 ghost use Rattle.eq_base.specs.ClassLists.{members_of};
+ghost use Rattle.eq_base.specs.Meeting.{class_number};
 ghost use Rattle.eq_base.specs.RuleList.{RuleList};
+ghost use Rattle.match_tables.specs.declared.step.Step.TheVariants.{Other};
 ghost use Rattle.regularity.specs.WellFormed.{AreWellFormed};
 ghost use Rattle.match_tables.specs.Items.{ItemSet};
 ghost use Rattle.match_tables.specs.Moving.{AreItemsOf};
@@ -42,19 +44,27 @@ impl State {
     fn place_of(&self, head: Head) -> Option<usize>
         ensures { IsPlaceIn self.now.heads.keys head result }
     {
-        self.heads.get_index_of(&head)
+        let heads = self.heads.as_slice();
+        for place in 0..heads.len() {
+            if heads[place] == head {
+                return Some(place);
+            }
+        }
+        None
     }
 
     /// Where a head leads, given where a symbol leads that no item below the roots meets.
     pub fn on_head(&self, head: Head, root: Move) -> Move
         ensures { (rules : RuleList) → AreWellFormed rules → (sets : List ItemSet) (items : ItemSet)
-            → AreItemsOf rules items → IsRow rules sets items self.now
+            → IsRow rules sets items self.now
             → IsOnHead rules sets items head root result }
     {
         if let Some(place) = self.place_of(head) {
-            if place < self.moves.len() {
-                return self.moves[place];
-            }
+            return if place < self.moves.len() {
+                self.moves[place]
+            } else {
+                root
+            };
         }
         match head {
             Head::Symbol(_) => root,
@@ -102,7 +112,9 @@ pub fn state_of(
 }
 
 // The read of a head of a class that is named nowhere.
-fn other(class: SymbolClass) -> Step {
+fn other(class: SymbolClass) -> Step
+    ensures { result ≡ Other (class_number class) }
+{
     Step::Other(class.number())
 }
 
@@ -145,13 +157,13 @@ fn push_named(heads: &mut IndexSet<Head>, classes: &Classes, cell: Cell) -> Resu
 {
     match cell {
         Cell::Head(head, _) => {
-            heads.insert(head)?;
+            push_head(heads, head)?;
         }
         Cell::Var(_) => {}
         Cell::Class(_, class) => {
             if class == SymbolClass::TruthValues.number() {
-                heads.insert(Head::Symbol(0))?;
-                heads.insert(Head::Symbol(1))?;
+                push_head(heads, Head::Symbol(0))?;
+                push_head(heads, Head::Symbol(1))?;
             } else if class >= FIRST_CLASS && ((class - FIRST_CLASS) as usize) < classes.len() {
                 push_members(heads, classes, class)?;
             }
@@ -168,8 +180,17 @@ fn push_members(heads: &mut IndexSet<Head>, classes: &Classes, class: u8) -> Res
     ensures keeps { OnOk result (Keeps heads.old.keys heads.new.keys) }
 {
     for number in 0..classes.members(class) {
-        heads.insert(classes.member(class, number))?;
+        push_head(heads, classes.member(class, number))?;
     }
+    Ok(())
+}
+
+// Adds a head, if it is new.
+fn push_head(heads: &mut IndexSet<Head>, head: Head) -> Result<(), NoMemory>
+    ensures has { OnOk result (Contains heads.new.keys head) }
+    ensures keeps { OnOk result (Keeps heads.old.keys heads.new.keys) }
+{
+    heads.insert(head)?;
     Ok(())
 }
 
@@ -195,9 +216,7 @@ fn moves_of(
     let mut moves = Vec::new(alloc);
     for head in heads {
         let to = search.go(alloc, rules, ends, state, Step::Read(*head))?;
-        if moves.push(to).is_err() {
-            return Err(Stop::NoMemory);
-        }
+        moves.push(to)?;
     }
     Ok(moves)
 }

@@ -10,7 +10,7 @@ use crate::further::{Item, further};
 use crate::sets::ItemSets;
 use crate::step::Step;
 use eq_base::{NoMemory, Rules};
-use std::alloc::Global;
+use std::alloc::{AllocFailed, Global};
 use std::marker::Model;
 
 /// The most items below the roots that all item sets may hold together.
@@ -31,6 +31,16 @@ impl From<NoMemory> for Stop {
     ghost from_gives = { λ _ stop. stop ≡ NoMemory };
 
     fn from(_error: NoMemory) -> Self {
+        Stop::NoMemory
+    }
+}
+
+impl<T: Drop> From<AllocFailed<T>> for Stop {
+    ghost use Rattle.match_tables.specs.declared.search.Stop.TheVariants.{NoMemory};
+
+    ghost from_gives = { λ _ stop. stop ≡ NoMemory };
+
+    fn from(_failed: AllocFailed<T>) -> Self {
         Stop::NoMemory
     }
 }

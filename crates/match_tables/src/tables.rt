@@ -153,9 +153,7 @@ fn states_of(
     let mut states = Vec::new(alloc);
     while states.len() < search.len() {
         let state = state_of(alloc, search, rules, ends, states.len())?;
-        if states.push(state).is_err() {
-            return Err(Stop::NoMemory);
-        }
+        states.push(state)?;
     }
     Ok(states)
 }
@@ -180,9 +178,7 @@ fn roots_of(
     for symbol in 0..end_of_roots(rules) {
         let step = Step::Read(Head::Symbol(symbol as u32));
         let to = search.go(alloc, rules, ends, 0, step)?;
-        if roots.push(to).is_err() {
-            return Err(Stop::NoMemory);
-        }
+        roots.push(to)?;
     }
     Ok(roots)
 }

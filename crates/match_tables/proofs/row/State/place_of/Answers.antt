@@ -1,0 +1,1 @@
+use Rattle.match_tables.proofs.row.State.place_of.Goals as goal
