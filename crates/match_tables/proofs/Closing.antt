@@ -1,5 +1,5 @@
 -- The reachable item sets all stand in a list that reads and skips do not lead out of.
-use Rattle.std.proofs.Common.{◌≡◌, ℕ, ◌<◌, ◌≤◌, List, [], sym, subst, arith}
+use Rattle.std.proofs.Common.{◌≡◌, ℕ, ◌≤◌, List, [], subst, arith}
 use Rattle.std.specs.Prelude.{Contains}
 use Rattle.eq_base.specs.Tree.{Tree}
 use Rattle.eq_base.specs.Pattern.{PatternCell, Classes}

@@ -1,14 +1,12 @@
 -- Lists of distinct item sets: how many items they hold together, and what the members of a set tell of it.
-use Rattle.std.proofs.Common.{◌≡◌, ◌≢◌, ◌⊎◌, ℕ, zero, suc, ◌+◌, ◌<◌, ◌≤◌, List, [], ◌∷◌, ◌++◌, length, slice_get, Some, refl, sym, ◌∙◌, ap, subst, arith, inl, inr, ⊎_elim}
-use Rattle.std.specs.Prelude.{◌↔◌, Contains}
+use Rattle.std.proofs.Common.{◌≡◌, ◌≢◌, ◌⊎◌, zero, suc, ◌+◌, ◌≤◌, List, [], ◌∷◌, ◌++◌, length, refl, sym, ◌∙◌, ap, subst, arith, inl, inr, ⊎_elim}
+use Rattle.std.specs.Prelude.{Contains}
 use Rattle.std.specs.List.{AllByRecursion}
 use Rattle.std.proofs.lemmas.Option.{none-some}
 use Rattle.std.proofs.lemmas.List.Elements.{Contains-append_left, Contains-append_right, Contains-append_cases}
-use Rattle.eq_base.specs.Tree.{Tree}
-use Rattle.eq_base.specs.Pattern.{PatternCell, Classes}
 use Rattle.eq_base.proofs.Lists.{all_contained}
-use Rattle.match_tables.specs.Items.{Item, ItemSet, Precedes, IsOrdered, AreFurther, IsRead, IsSkip}
-use Rattle.match_tables.specs.Reachable.{total_items, AreDistinct, IsReachable, start, by_read, by_skip, ArePast}
+use Rattle.match_tables.specs.Items.{Item, ItemSet, Precedes, IsOrdered}
+use Rattle.match_tables.specs.Reachable.{total_items, AreDistinct}
 use Rattle.match_tables.specs.Sets as indices
 use Rattle.match_tables.proofs.Places.{contains_from_place}
 
@@ -121,6 +119,6 @@ same-members (a ∷ these) [] o p f g = absurd (let c = f a (is-first a these) i
 same-members (a ∷ these) (b ∷ those) o p f g =
     let same : a ≡ b = first-same a b these those o p (g b (is-first b those)) (f a (is-first a these)) in
     let rest : these ≡ those = same-members these those o.1 p.1
-            (λ x c. later-member a b these those o same (f a (is-first a these)) x c (f x (is-later a x these c)))
-            (λ x c. later-member b a those these p (sym same) (g b (is-first b those)) x c (g x (is-later b x those c))) in
+    (λ x c. later-member a b these those o same (f a (is-first a these)) x c (f x (is-later a x these c)))
+    (λ x c. later-member b a those these p (sym same) (g b (is-first b those)) x c (g x (is-later b x those c))) in
     cc
