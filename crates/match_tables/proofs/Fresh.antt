@@ -60,3 +60,10 @@ module _ (rules : RuleList) (sets : List ItemSet) (state : ℕ) where
   pub keeps-other : AreWellFormed rules → (heads : List Head) → ((items : ItemSet) → slice_get sets state ≡ Some items → HaveNamed rules items heads) → (class : ℕ) → Fresh class heads → KeepsReachable rules sets state (Other class)
   keeps-other w heads named class f items next at r l =
       by_read f.head r (leads-read rules sets items f.head next (same-leads rules items (Other class) (Read f.head) (other-same rules w items heads (named items at) class f.head f.literal f.none) next l))
+
+-- the item set at a number is one
+pub same-set : (sets : List ItemSet) (state : ℕ) (one other : ItemSet) → slice_get sets state ≡ Some one → slice_get sets state ≡ Some other → one ≡ other
+same-set sets state one other a b = cc
+
+pub named-at : (rules : RuleList) (sets : List ItemSet) (state : ℕ) (own : ItemSet) (heads : List Head) → slice_get sets state ≡ Some own → HaveNamed rules own heads → (items : ItemSet) → slice_get sets state ≡ Some items → HaveNamed rules items heads
+named-at rules sets state own heads at named items here = subst (λ xs. HaveNamed rules xs heads) (same-set sets state own items at here) named
