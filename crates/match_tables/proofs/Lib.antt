@@ -23,5 +23,6 @@ pub mod Depths
 pub mod Counting
 pub mod Closing
 pub mod Closed
+pub mod Starting
 pub mod Lasts
 pub mod LastCells
