@@ -10,6 +10,8 @@ pub mod Extending
 pub mod Fresh
 pub mod Naming
 pub mod Inserted
+pub mod Counted
+pub mod Rooted
 pub mod Fronts
 pub mod Meeting
 pub mod Passing

@@ -1,6 +1,6 @@
 -- What tables of equations are.
 use Rattle.std.specs.Prelude.{◌≡◌, ℕ, ◌<◌, ◌≤◌, List, [], length, Option, Some, None, slice_get}
-use Rattle.eq_base.specs.Pattern.{fixed}
+use Rattle.eq_base.specs.Pattern.{PatternCell, fixed}
 use Rattle.eq_base.specs.Meeting.{in_class_of}
 use Rattle.eq_base.specs.RuleList.{RuleList}
 use Rattle.eq_base.specs.declared.head.Head.{Head}
@@ -22,6 +22,10 @@ use Rattle.match_tables.specs.declared.tables.Tables.{Tables}
 abbrev pub IsState : Tables → ℕ → Type 0
 IsState tables state = state < length tables.states.items
 
+-- the symbol in the cell, if there is one, is below the end
+abbrev pub IsBelow : PatternCell Head → ℕ → Type 0
+IsBelow cell end = (symbol : ℕ) → cell ≡ fixed (Symbol symbol) → symbol < end
+
 module _ (rules : RuleList) where
   -- each state has the row of its item set
   pub record AreRows (sets : List ItemSet) (states : List State) : Type 0 where
@@ -34,7 +38,7 @@ module _ (rules : RuleList) where
 
   -- the symbol at the root of each left side is below the end
   abbrev pub AreRootsBelow : ℕ → Type 0
-  AreRootsBelow end = (e symbol : ℕ) → IsCell (left_sides_of rules) e 0 (fixed (Symbol symbol)) → symbol < end
+  AreRootsBelow end = (e : ℕ) (cell : PatternCell Head) → IsCell (left_sides_of rules) e 0 cell → IsBelow cell end
 
   -- the tables are those of the equations: each state has the row of its item set, the first one that of the
   -- roots alone, and each item set is reachable

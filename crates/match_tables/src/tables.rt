@@ -1,10 +1,11 @@
 // The tables and their states.
 ghost use Rattle.std.specs.Prelude.{◌≡◌, ℕ, ◌<◌, ◌≤◌, List, [], length, IfOk, IfErr, Some, slice_get};
+ghost use Rattle.eq_base.specs.Cells.{kind_of};
 ghost use Rattle.eq_base.specs.RuleList.{RuleList};
 ghost use Rattle.regularity.specs.WellFormed.{AreWellFormed};
 ghost use Rattle.match_tables.specs.Completing.{AreEnds};
 ghost use Rattle.match_tables.specs.Searching.{Extends, AreFound, IsStopped};
-ghost use Rattle.match_tables.specs.Tabled.{AreRows, AreRoots, AreRootsBelow, AreTablesOf};
+ghost use Rattle.match_tables.specs.Tabled.{AreRows, AreRoots, AreRootsBelow, IsBelow, AreTablesOf};
 
 use crate::advance::{Advance, Want};
 use crate::completed::{End, ends_of};
@@ -189,12 +190,22 @@ fn end_of_roots(rules: &Rules) -> usize
     ensures small { result ≤ 4294967296 }
 {
     let mut end = 0;
-    for equation in rules.iter() {
-        if let Cell::Head(Head::Symbol(symbol), _) = equation.left.cell(0) {
-            if end <= symbol as usize {
-                end = symbol as usize + 1;
-            }
+    for number in 0..rules.len() {
+        let own = end_of_root(rules.equation(number).left.cell(0));
+        if end < own {
+            end = own;
         }
     }
     end
+}
+
+// One more than the symbol in a cell, or 0 where there is none.
+fn end_of_root(cell: Cell) -> usize
+    ensures above { IsBelow (kind_of cell) result }
+    ensures small { result ≤ 4294967296 }
+{
+    match cell {
+        Cell::Head(Head::Symbol(symbol), _) => symbol as usize + 1,
+        _ => 0,
+    }
 }
