@@ -67,27 +67,6 @@ no-more-items (items ∷ sets) all distinct inside =
           part-other all items other p (all_contained (λ o. items ≢ o) sets other distinct.0 c) (inside other (is-later items other sets c))),
     )
 
--- one of some distinct sets at most is empty
-full-sets : (sets : List ItemSet) → AllByRecursion (λ other. [] ≢ other) sets → length sets ≤ total_items sets
-full-sets [] full = omega arith
-full-sets ([] ∷ sets) full = absurd (full.0 refl)
-full-sets ((a ∷ items) ∷ sets) full = omega (arith, full-sets sets full.1)
-
-pub few-sets : (sets : List ItemSet) → AreDistinct sets → length sets ≤ total_items sets + 1
-few-sets [] distinct = omega arith
-few-sets ([] ∷ sets) distinct = omega (arith, full-sets sets distinct.0)
-few-sets ((a ∷ items) ∷ sets) distinct = omega (arith, few-sets sets distinct.1)
-
--- distinct sets have distinct indices
-pub distinct-indices : (sets : List ItemSet) → AreDistinct sets → indices.AreDistinct sets
-distinct-indices [] distinct items one other a b = absurd (none-some items a)
-distinct-indices (first ∷ sets) distinct items zero zero a b = refl
-distinct-indices (first ∷ sets) distinct items zero (suc other) a b =
-    absurd (all_contained (λ o. first ≢ o) sets items distinct.0 (contains_from_place sets other items b) (cc))
-distinct-indices (first ∷ sets) distinct items (suc one) zero a b =
-    absurd (all_contained (λ o. first ≢ o) sets items distinct.0 (contains_from_place sets one items a) (cc))
-distinct-indices (first ∷ sets) distinct items (suc one) (suc other) a b = ap suc (distinct-indices sets distinct.1 items one other a b)
-
 -- ---- the members of an ordered set
 
 one-way : (a b : Item) → Precedes a b → Precedes b a → ⊥
