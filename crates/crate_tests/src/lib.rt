@@ -21,3 +21,5 @@ mod streams;
 mod tokens;
 #[cfg(test)]
 mod values;
+#[cfg(test)]
+mod watches;
