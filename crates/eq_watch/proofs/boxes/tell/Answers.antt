@@ -17,11 +17,17 @@ returns-in_err-tell_one-clause-err g c =
 pub loop-i-preserved : goal.loop-i-preserved
 loop-i-preserved g c = elim c.if-is_told.branch [
   | then-is_told+in_ok-tell_one w ↦
-      rw w.watch-is record { changed = next_changed c.args.watch.now.items c.loop-i.watch.items c.loop-i.i w.index_mut.result.now
-      w.tell_one.new.watch _ (λ watch. moved watch c.args.event) c.args.on.now
-      (omega (arith, c.args.watch.now.ok.0)) (omega arith) w.if-is_told.true w.index_mut.ensures.value
-      w.in_ok-tell_one.ensures.ok c.loop-i.invariant.changed; count = c.loop-i.invariant.count }
+      rw w.watch-is record {
+        changed = next_changed c.args.watch.now.items c.loop-i.watch.items c.loop-i.i w.index_mut.result.now
+            w.tell_one.new.watch _ (λ watch. moved watch c.args.event) c.args.on.now
+            (omega (arith, c.args.watch.now.ok.0)) (omega arith) w.if-is_told.true w.index_mut.ensures.value
+            w.in_ok-tell_one.ensures.ok c.loop-i.invariant.changed;
+        count = c.loop-i.invariant.count;
+      }
   | else-is_told w ↦
-      rw w.watch-is record { changed = next_same (λ watch. moved watch c.args.event) c.args.on.now _ _ c.loop-i.i (omega arith)
-      w.if-is_told.false c.loop-i.invariant.changed; count = c.loop-i.invariant.count }
+      rw w.watch-is record {
+        changed = next_same (λ watch. moved watch c.args.event) c.args.on.now _ _ c.loop-i.i (omega arith)
+            w.if-is_told.false c.loop-i.invariant.changed;
+        count = c.loop-i.invariant.count;
+      }
 ]
