@@ -20,4 +20,5 @@ module _ {H : Type 0} where
     pub way : IsWay after root (put_frames n new outer) (put_frames n new inner) new
     pub beside : DevelopBeside system (plain_frames inner) (plain_frames (put_frames n new inner))
     pub settled : AreSettledAround system (plain_frames outer) (plain (plug inner t))
-        → AreSettledAround system (plain_frames (put_frames n new outer)) (plain (plug (put_frames n new inner) new))
+        → AreSettledAround system (plain_frames (put_frames n new outer))
+        (plain (plug (put_frames n new inner) new))

@@ -45,4 +45,5 @@ module _ {H : Type 0} where
         → MachineRun system trees first n now (reading outer (below ++ above) t items)
         → root_number (plug below t) ≡ m → ComesTo system (plain_frames above) before →
         IsReplaced system m now after → slice_get after m ≡ Some new
-        → MachineRun system trees first (suc n) after (reading (put_frames m new outer) (put_frames m new above) new before)
+        → MachineRun system trees first (suc n) after
+        (reading (put_frames m new outer) (put_frames m new above) new before)

@@ -4,7 +4,8 @@ use Rattle.eq_base.specs.Tree.{Forest, node, empty, grow}
 use Rattle.eq_base.specs.Storing.{join}
 use Rattle.eq_base.specs.Rewriting.{System, IsRedexBy, IsNormal}
 use Rattle.orthogonal_laws.specs.Strategy.{HasNoDemandedRedex}
-use Rattle.match_laws.specs.Items.{ItemSet, IsRead, IsSkip, IsCompleted, IsFirstCompleted, WantsRead, WantsSkip, WantsNothing}
+use Rattle.match_laws.specs.Items.{ItemSet, IsRead, IsSkip, IsCompleted, IsFirstCompleted}
+use Rattle.match_laws.specs.Items.{WantsRead, WantsSkip, WantsNothing}
 use Rattle.match_laws.specs.Demand.{left_sides}
 use Rattle.graph_laws.specs.Numbered.{Numbered, plain}
 use Rattle.machine_laws.specs.Frames.{Frame, plug}
@@ -45,14 +46,17 @@ module _ {H : Type 0} (system : System H) where
     turn_skip : {outer inner : List (Frame (H × ℕ))} {l : H
         × ℕ} {before behind : Forest (H × ℕ)} {t : Numbered H} {items next : ItemSet}
         → WantsSkip (left_sides system) items → IsSkip (left_sides system) items next
-        → Turn (among outer inner l before (grow t behind) items) (among outer inner l (join before (grow t empty)) behind next)
+        → Turn (among outer inner l before (grow t behind) items)
+        (among outer inner l (join before (grow t empty)) behind next)
     turn_into : {outer inner : List (Frame (H × ℕ))} {l : H
         × ℕ} {before behind : Forest (H × ℕ)} {t : Numbered H} {items : ItemSet}
         → WantsRead (left_sides system) items
-        → Turn (among outer inner l before (grow t behind) items) (reading outer (record { head = l; before = before; behind = behind } ∷ inner) t items)
+        → Turn (among outer inner l before (grow t behind) items)
+        (reading outer (record { head = l; before = before; behind = behind } ∷ inner) t items)
     turn_back : {f : Frame (H × ℕ)} {outer inner : List (Frame (H × ℕ))} {l : H
         × ℕ} {before : Forest (H × ℕ)} {items : ItemSet}
-        → Turn (among outer (f ∷ inner) l before empty items) (among outer inner f.head (join f.before (grow (node l before) empty)) f.behind items)
+        → Turn (among outer (f ∷ inner) l before empty items)
+        (among outer inner f.head (join f.before (grow (node l before) empty)) f.behind items)
     turn_first : {outer : List (Frame (H × ℕ))} {l : H × ℕ} {before : Forest (H × ℕ)} {items : ItemSet}
         → Turn (among outer [] l before empty items) (turning outer l empty before)
     turn_over : {outer inner : List (Frame (H × ℕ))} {l m : H
@@ -68,8 +72,10 @@ module _ {H : Type 0} (system : System H) where
         → plug inner (node l args) ≡ node m all
         → Turn (reading outer inner (node l args) items) (turning outer m empty all)
     turn_down : {outer : List (Frame (H × ℕ))} {l : H × ℕ} {before behind : Forest (H × ℕ)} {t : Numbered H}
-        → Turn (turning outer l before (grow t behind)) (arriving (record { head = l; before = before; behind = behind } ∷ outer) t)
+        → Turn (turning outer l before (grow t behind))
+        (arriving (record { head = l; before = before; behind = behind } ∷ outer) t)
     turn_up : {f : Frame (H × ℕ)} {outer : List (Frame (H × ℕ))} {l : H × ℕ} {before : Forest (H × ℕ)}
-        → Turn (turning (f ∷ outer) l before empty) (turning outer f.head (join f.before (grow (node l before) empty)) f.behind)
+        → Turn (turning (f ∷ outer) l before empty)
+        (turning outer f.head (join f.before (grow (node l before) empty)) f.behind)
     turn_end : {l : H × ℕ} {before : Forest (H × ℕ)}
         → Turn (turning [] l before empty) (ended (node l before))

@@ -12,9 +12,19 @@ module _ {H : Type 0} where
   -- the nodes above without their numbers
   abbrev pub plain_frames : List (Frame (H × ℕ)) → List (Frame H)
   plain_frames [] = []
-  plain_frames (f ∷ frames) = record { head = f.head.0; before = plain_all f.before; behind = plain_all f.behind } ∷ plain_frames frames
+  plain_frames (f ∷ frames) =
+      record {
+        head = f.head.0;
+        before = plain_all f.before;
+        behind = plain_all f.behind;
+      } ∷ plain_frames frames
 
   -- the nodes above with another tree in place of each part of their other arguments that has the number
   abbrev pub put_frames : ℕ → Numbered H → List (Frame (H × ℕ)) → List (Frame (H × ℕ))
   put_frames n u [] = []
-  put_frames n u (f ∷ frames) = record { head = f.head; before = replace_all_numbered n u f.before; behind = replace_all_numbered n u f.behind } ∷ put_frames n u frames
+  put_frames n u (f ∷ frames) =
+      record {
+        head = f.head;
+        before = replace_all_numbered n u f.before;
+        behind = replace_all_numbered n u f.behind;
+      } ∷ put_frames n u frames

@@ -31,7 +31,10 @@ outer_work (f ∷ frames) = turn_work f.behind + outer_work frames
 -- all together
 abbrev pub work : {H : Type 0} → Place H → ℕ
 work (arriving outer t) = arrive_work t + outer_work outer
-work (reading outer inner t items) = read_work t + inner_work inner + turn_work (args_of (plug inner t)) + outer_work outer
-work (among outer inner l before behind items) = 2 + 4 * total_size behind + inner_work inner + turn_work (args_of (plug inner (node l (join before behind)))) + outer_work outer
+work (reading outer inner t items) =
+    read_work t + inner_work inner + turn_work (args_of (plug inner t)) + outer_work outer
+work (among outer inner l before behind items) =
+    2 + 4 * total_size behind + inner_work inner
+    + turn_work (args_of (plug inner (node l (join before behind)))) + outer_work outer
 work (turning outer l before behind) = turn_work behind + outer_work outer
 work (ended t) = 0

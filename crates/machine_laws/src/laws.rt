@@ -1,6 +1,6 @@
 // What a reading by item sets finds, and that it may go on after a replacement: each is the contract of a
 // function that does nothing.
-ghost use Rattle.std.specs.Prelude.{◌≡◌, ◌↔◌, ℕ, ◌<◌, List, Option, [], ◌++◌, Some, slice_get};
+ghost use Rattle.std.specs.Prelude.{◌≡◌, ◌↔◌, ℕ, ◌<◌, ◌≤◌, List, length, Option, [], ◌++◌, Some, slice_get};
 ghost use Rattle.eq_base.specs.Tree.{Tree, Forest, node, empty, grow, Position};
 ghost use Rattle.eq_base.specs.Storing.{join};
 ghost use Rattle.eq_base.specs.Pattern.{PatternCell};
@@ -16,7 +16,7 @@ ghost use Rattle.symbol_table.specs.Reading.{read_head, read, read_pattern, read
 ghost use Rattle.sequentiality.specs.Regular.{AreRegular};
 ghost use Rattle.orthogonal_laws.specs.Readings.{AreRegularIn};
 ghost use Rattle.orthogonal_laws.specs.Orthogonal.{IsOrthogonal, IsLawful};
-ghost use Rattle.orthogonal_laws.specs.Strategy.{IsDemandedRedex, HasNoDemandedRedex, IsNext};
+ghost use Rattle.orthogonal_laws.specs.Strategy.{IsDemandedRedex, HasNoDemandedRedex, IsNext, HasLength};
 ghost use Rattle.match_laws.specs.Items.{ItemSet, IsRead, IsSkip, IsCompleted, IsFirstCompleted};
 ghost use Rattle.match_laws.specs.Items.{WantsRead, WantsSkip, WantsNothing};
 ghost use Rattle.match_laws.specs.Reading.{KeepArities};
@@ -24,7 +24,8 @@ ghost use Rattle.match_laws.specs.Demand.{left_sides, left_sides_of, HasFixedAri
 ghost use Rattle.graph_laws.specs.Numbered.{Numbered, plain, root_number, AreShared};
 ghost use Rattle.graph_laws.specs.Replacing.{IsReplacement};
 ghost use Rattle.machine_laws.specs.ReadTrees.{with_heads, read_trees};
-ghost use Rattle.graph_laws.specs.Runs.{IsPut, IsReplaced, IsNextNode, GraphRun};
+ghost use Rattle.graph_laws.specs.Runs.{IsPut, IsReplaced, ReplacementList, IsNextNode, GraphRun};
+ghost use Rattle.graph_laws.specs.SharedRuns.{SharedRun, StandsFor, IsOnlyNormalForm, HaveConstantValues};
 ghost use Rattle.machine_laws.specs.Places.{Place, arriving, ended, Turn};
 ghost use Rattle.machine_laws.specs.Work.{work};
 ghost use Rattle.machine_laws.specs.MachineRuns.{KeepAll, ReplacementsKeep, RightsKeep, MachineRun};
@@ -153,8 +154,8 @@ pub fn equations_keep()
         → RightsKeep (system_of value_of rules) regular.well_formed.arity }
 {}
 
-/// Regular equations of a table whose right sides have the fixed numbers of arguments keep these numbers as they
-/// are read, with the operations: so the laws of the machine hold of them.
+/// Regular equations of a table whose right sides have the fixed numbers of arguments keep these numbers as
+/// they are read, with the operations: so the laws of the machine hold of them.
 pub fn read_equations_keep()
     ensures { (table : Table) (rules : RuleList) → (regular : AreRegularIn table rules)
         → HaveRightArities regular.regular.well_formed.arity rules → (arity : ReadHead → ℕ)
@@ -163,8 +164,8 @@ pub fn read_equations_keep()
         → arity (read_head table h) ≡ regular.regular.well_formed.arity h) }
 {}
 
-/// Where a table has one number for each name, item sets by number are those of the equations as they are read:
-/// the same sets are wanted, and live heads lead from one to the next and complete the same left sides.
+/// Where a table has one number for each name, item sets by number are those of the equations as they are
+/// read: the same is wanted, and live heads lead from one to the next and complete the same left sides.
 pub fn sets_are_read()
     ensures reads { (table : Table) → HasOneNumberEach table → (rules : RuleList) → AreLive table rules
         → (items next : ItemSet) (h : Head) → IsLiveHead table h
@@ -192,7 +193,8 @@ pub fn sets_are_read()
         ↔ WantsSkip (left_sides (read_system table rules)) items }
 {}
 
-/// Replacements in a store are those in the store as it is read, and shared trees are shared as they are read.
+/// Replacements in a store are those in the store as it is read, and shared trees are shared as they are
+/// read.
 pub fn stores_are_read()
     ensures pattern { (table : Table) (left right : Tree (PatternCell Head)) (n : ℕ)
         (trees after : List (Numbered Head)) → IsReplacement left right n trees after
@@ -221,6 +223,31 @@ pub fn machine_makes_graph_run<H>()
         → (n : ℕ) (now : List (Numbered H)) (v : Numbered H)
         → MachineRun system trees (arriving [] t) n now (ended v) → (slice_get now root ≡ Some v)
         × IsNormal system (plain v) }
+{}
+
+/// Where the machine ends, the root's tree is the only normal form of the term, and no list of replacements
+/// after which the root stands for a normal form is shorter. Where a redex is left, it has made as many
+/// shared steps, and the plain run is longer.
+pub fn machine_answers<H>()
+    ensures only { (system : System H) → IsLawful system → (arity : H → ℕ) → HasFixedArities system arity
+        → RightsKeep system arity → (root : ℕ) (trees : List (Numbered H)) (t : Numbered H) → AreShared trees
+        → KeepAll arity trees → slice_get trees root ≡ Some t → (n : ℕ)
+        (now : List (Numbered H)) (v : Numbered H) → MachineRun system trees (arriving [] t) n now (ended v)
+        → IsOnlyNormalForm system (plain t) n (plain v) }
+    ensures shortest { (system : System H) → IsLawful system → (arity : H → ℕ) → HasFixedArities system arity
+        → RightsKeep system arity → (root : ℕ) (trees : List (Numbered H)) (t : Numbered H) → AreShared trees
+        → KeepAll arity trees → slice_get trees root ≡ Some t
+        → HaveConstantValues system → (n : ℕ) (now : List (Numbered H)) (v : Numbered H)
+        → MachineRun system trees (arriving [] t) n now (ended v) → (others : List (Numbered H))
+        (ns : List ℕ) (u : Tree H) → ReplacementList system trees ns others → StandsFor others root u
+        → IsNormal system u → n ≤ length ns }
+    ensures spent { (system : System H) → IsLawful system → (arity : H → ℕ) → HasFixedArities system arity
+        → RightsKeep system arity → (root : ℕ) (trees : List (Numbered H)) (t : Numbered H) → AreShared trees
+        → KeepAll arity trees → slice_get trees root ≡ Some t → (n : ℕ)
+        (now : List (Numbered H)) (place : Place H) → MachineRun system trees (arriving [] t) n now place
+        → (u : Tree H) → StandsFor now root u → (IsNormal system u → ⊥)
+        → SharedRun system (plain t) n u
+        × ((v : Tree H) (m : ℕ) → HasLength system (plain t) m v → n < m) }
 {}
 
 /// Each turn of the machine's loop leaves less work, so there are finitely many between two replacements.
