@@ -1,6 +1,7 @@
 // What a reading by item sets finds, and that it may go on after a replacement: each is the contract of a
 // function that does nothing.
-ghost use Rattle.std.specs.Prelude.{◌≡◌, ◌⊎◌, ◌↔◌, ℕ, suc, ◌<◌, ◌≤◌, List, length, Option, [], ◌++◌, Some, slice_get};
+ghost use Rattle.std.specs.Prelude.{◌≡◌, ◌⊎◌, ◌↔◌, ℕ, suc, ◌<◌, ◌≤◌, Option, Some};
+ghost use Rattle.std.specs.Prelude.{List, [], ◌++◌, length, slice_get};
 ghost use Rattle.eq_base.specs.Tree.{Tree, Forest, node, empty, grow, Position};
 ghost use Rattle.eq_base.specs.Storing.{join};
 ghost use Rattle.eq_base.specs.Pattern.{PatternCell};
@@ -236,8 +237,8 @@ pub fn machine_makes_graph_run<H>()
         × IsNormal system (plain v) }
 {}
 
-/// The machine is never stuck: at each place that it reaches it has ended, or a turn leads on, or it makes one
-/// replacement more.
+/// The machine is never stuck: at each place that it reaches it has ended, or a turn leads on, or it makes
+/// one replacement more.
 pub fn machine_goes_further<H>()
     ensures { (system : System H) → IsLawful system → HaveConstantValues system → (arity : H → ℕ)
         → HasFixedArities system arity → RightsKeep system arity → (root : ℕ) (trees : List (Numbered H))
