@@ -12,6 +12,7 @@ pub mod Naming
 pub mod Inserted
 pub mod Counted
 pub mod Rooted
+pub mod Depths
 pub mod Fronts
 pub mod Meeting
 pub mod Passing

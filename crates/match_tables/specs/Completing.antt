@@ -1,6 +1,7 @@
 -- Which left sides a step completes.
 use Rattle.std.specs.Prelude.{◌≡◌, ◌⊎◌, ℕ, ◌<◌, List, length, Option, Some, None, slice_get, Contains}
 use Rattle.eq_base.specs.RuleList.{RuleList}
+use Rattle.eq_base.specs.Tree.{Tree, head_of, size, nth_subtree, nth_position}
 use Rattle.eq_base.specs.Pattern.{PatternCell, IsTested}
 use Rattle.eq_base.specs.declared.head.Head.{Head}
 use Rattle.match_tables.specs.Items.{ItemSet, IsCell, IsLastTested, IsDepth}
@@ -8,6 +9,17 @@ use Rattle.match_tables.specs.Demand.{left_sides_of}
 use Rattle.match_tables.specs.Steps.{Moves}
 use Rattle.match_tables.specs.declared.step.Step.{Step}
 use Rattle.match_tables.specs.declared.completed.End.{End}
+
+-- the last tested cell of a pattern
+pub record IsLastOf (left : Tree (PatternCell Head)) (last : ℕ) : Type 0 where
+  pub there : last < size left
+  pub tested : IsTested (head_of (nth_subtree left last))
+  pub none : (k : ℕ) → last < k → k < size left → IsTested (head_of (nth_subtree left k)) → ⊥
+
+-- the last tested cell of a pattern, and its depth
+pub record IsEndOf (left : Tree (PatternCell Head)) (end : End) : Type 0 where
+  pub last : IsLastOf left end.cell
+  pub depth : length (nth_position left end.cell) ≡ end.height
 
 module _ (rules : RuleList) where
   -- the last tested cell of the left side of equation e, and its depth

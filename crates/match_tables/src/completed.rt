@@ -1,14 +1,15 @@
 // Which left sides a step completes.
-ghost use Rattle.std.specs.Prelude.{◌<◌, ◌↔◌, [], length, IsTrue, IfOk};
-ghost use Rattle.eq_base.specs.Tree.{size};
-ghost use Rattle.regularity.specs.WellFormed.{AreWellFormed};
+ghost use Rattle.std.specs.Prelude.{◌≡◌, ◌<◌, ◌≤◌, ◌↔◌, [], length, IsTrue, IfOk};
+ghost use Rattle.eq_base.specs.Tree.{size, nth_position};
+ghost use Rattle.regularity.specs.WellFormed.{AreWellFormed, HasSymbolRoot};
 ghost use Rattle.regularity.specs.Looking.{IsPlaceOf};
 ghost use Rattle.match_tables.specs.Moving.{AreItemsOf};
-ghost use Rattle.match_tables.specs.Completing.{IsEnd, AreEnds, CompletesAt, IsAnswered, IsLess};
+ghost use Rattle.match_tables.specs.Completing.{AreEnds, IsLastOf, IsEndOf, CompletesAt, IsAnswered, IsLess};
 
 use crate::further::Item;
 use crate::step::{Step, moves};
-use eq_base::{Cell, NoMemory, Pattern, Rules};
+use eq_base::{NoMemory, Pattern, Rules};
+use regularity::is_tested;
 use std::alloc::Global;
 
 /// The last tested cell of a left side.
@@ -26,14 +27,18 @@ pub fn ends_of(alloc: Global, rules: &Rules) -> Result<Vec<End>, NoMemory>
     ensures { IfOk result (λ ends. AreEnds rules.now ends.items) }
 {
     let mut ends = Vec::new(alloc);
-    for equation in 0..rules.len() {
-        ends.push(end_of(&rules.equation(equation).left))?;
+    for number in 0..rules.len() {
+        ends.push(end_of(&rules.equation(number).left))?;
     }
     Ok(ends)
 }
 
 // The last tested cell of a left side.
-fn end_of(left: &Pattern) -> End {
+fn end_of(left: &Pattern) -> End
+    requires small { size left.now ≤ 255 }
+    requires root { HasSymbolRoot left.now }
+    ensures { IsEndOf left.now result }
+{
     let cell = last_tested(left);
     End {
         cell: cell as u8,
@@ -42,10 +47,13 @@ fn end_of(left: &Pattern) -> End {
 }
 
 // The number of the last tested cell.
-fn last_tested(left: &Pattern) -> usize {
+fn last_tested(left: &Pattern) -> usize
+    requires { HasSymbolRoot left.now }
+    ensures { IsLastOf left.now result }
+{
     let mut last = 0;
     for at in 0..left.len() {
-        if !matches!(left.cell(at), Cell::Var(_)) {
+        if is_tested(left.cell(at)) {
             last = at;
         }
     }
@@ -55,6 +63,8 @@ fn last_tested(left: &Pattern) -> usize {
 // How many cells the cell stands below.
 fn depth_of(left: &Pattern, cell: usize) -> usize
     requires { cell < size left.now }
+    ensures depth { result ≡ length (nth_position left.now cell) }
+    ensures small { result ≤ cell }
 {
     let mut depth = 0;
     for at in 0..cell {
