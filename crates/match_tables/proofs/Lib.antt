@@ -13,6 +13,7 @@ pub mod Inserted
 pub mod Counted
 pub mod Rooted
 pub mod Depths
+pub mod Lasts
 pub mod Fronts
 pub mod Meeting
 pub mod Passing
