@@ -14,8 +14,6 @@ mod ports;
 #[cfg(test)]
 mod restrictions;
 #[cfg(test)]
-mod runs;
-#[cfg(test)]
 mod samples;
 #[cfg(test)]
 mod streams;

@@ -4,9 +4,9 @@ ghost use Rattle.regularity.specs.WellFormed.{AreWellFormed};
 
 use eq_base::{
     Cell, Classes, Equation, FIRST_CLASS, Head, NoMemory, Origin, Pattern, PatternMaker, Right,
-    Rules,
+    Rules, push_numeral,
 };
-use regularity::{Breaks, are_well_formed};
+use regularity::{Break, are_well_formed};
 use sequentiality::{AdmitError, Comparison, Regular, compare};
 use std::alloc::Global;
 use std::test::Fail;
@@ -76,10 +76,13 @@ fn classes(alloc: Global) -> Result<Classes, NoMemory> {
     Ok(classes)
 }
 
-/// The equations with these sides, if they are equations.
-fn rules_of(alloc: Global, sides: &[(&str, &str)]) -> Result<Option<Rules>, NoMemory> {
+/// The equations that a text has, with `=` between the sides and a blank between two equations, if they are some.
+fn rules_of(alloc: Global, text: &str) -> Result<Option<Rules>, NoMemory> {
     let mut rules = Rules::new(alloc, classes(alloc)?);
-    for (left, right) in sides {
+    for equation in text.split(' ') {
+        let Some((left, right)) = equation.split_once('=') else {
+            return Ok(None);
+        };
         let Some(left) = pattern(alloc, left)? else {
             return Ok(None);
         };
@@ -115,91 +118,70 @@ fn compared(rules: &Rules, place: usize) -> Option<Comparison>
 fn comparisons_stop_at_the_first_difference(rt: HostRuntime) -> Result<(), Fail> {
     let alloc = rt.alloc();
     let arities = arities(alloc)?;
-    for (left, place, other, wanted) in [
-        ("fgxay", 1, "gbc", Comparison::Mismatch(1)),
-        ("otx", 0, "oxt", Comparison::Mismatch(1)),
-        ("g0x", 0, "gx1", Comparison::Mismatch(1)),
-        ("Fpx", 1, "psx", Comparison::Mismatch(1)),
-        ("AAASxyz", 1, "AAASxyz", Comparison::Clash(2)),
-        ("AAASxyz", 0, "AAKxy", Comparison::Clash(2)),
-        ("hn", 0, "h0", Comparison::Common),
-        ("hhx", 1, "hhx", Comparison::Mismatch(1)),
+    for (text, place, wanted) in [
+        ("fgxay=c gbc=c", 1, Comparison::Mismatch(1)),
+        ("otx=c oxt=c", 0, Comparison::Mismatch(1)),
+        ("g0x=c gx1=c", 0, Comparison::Mismatch(1)),
+        ("Fpx=c psx=c", 1, Comparison::Mismatch(1)),
+        ("AAASxyz=c AAASxyz=c", 1, Comparison::Clash(2)),
+        ("AAASxyz=c AAKxy=c", 0, Comparison::Clash(2)),
+        ("hn=c h0=c", 0, Comparison::Common),
+        ("hhx=c hhx=c", 1, Comparison::Mismatch(1)),
     ] {
-        let Some(rules) = rules_of(alloc, &[(left, "c"), (other, "c")])? else {
-            panic!(rt; "no equations: {left}, {other}");
+        let Some(rules) = rules_of(alloc, text)? else {
+            panic!(rt; "no equations: {text}");
         };
         assert!(rt; are_well_formed(&rules, &arities));
-        assert_eq!(rt; compared(&rules, place), Some(wanted), "{left}, {other}");
+        assert_eq!(rt; compared(&rules, place), Some(wanted), "{text}");
     }
     Ok(())
 }
 
-/// The number of a restriction, of the first equation, of the position in it and of the second equation.
-type Told = (u8, usize, usize, usize);
-
-/// Whether these are the breaks.
-fn are_breaks(found: &Breaks, wanted: &[Told]) -> bool {
-    let told = found.iter().map(|one| {
-        (
-            one.restriction,
-            one.first as usize,
-            one.place as usize,
-            one.second as usize,
-        )
-    });
-    told.eq(wanted.iter().copied())
+/// Appends the number of a break's restriction, of its first equation, of the position in it and of its second
+/// equation, with a semicolon.
+fn push_break(text: &mut Vec<u8>, told: &Break) -> Result<(), NoMemory> {
+    let restriction = u16::from(told.restriction);
+    for number in [restriction, told.first, told.place, told.second] {
+        text.push(b' ')?;
+        push_numeral(text, i128::from(number))?;
+    }
+    text.push(b';')?;
+    Ok(())
 }
 
-/// Whether equations are admitted where no break is wanted, and else refused with the wanted breaks.
-fn is_answered(alloc: Global, rules: Rules, wanted: &[Told]) -> bool
+/// The breaks of equations, one after another. Nothing where there is no memory.
+fn breaks_of(alloc: Global, rules: Rules) -> Result<Vec<u8>, NoMemory>
     requires { AreWellFormed rules }
 {
-    match Regular::admit(alloc, rules) {
-        Ok(_) => wanted.is_empty(),
-        Err(AdmitError::Broken(found, _rules)) => !wanted.is_empty() && are_breaks(&found, wanted),
-        Err(AdmitError::NoMemory) => false,
+    let mut text = Vec::new(alloc);
+    if let Err(AdmitError::Broken(found, _rules)) = Regular::admit(alloc, rules) {
+        for told in found.iter() {
+            push_break(&mut text, told)?;
+        }
     }
+    Ok(text)
 }
 
 #[test]
-fn equations_are_admitted_without_breaks(rt: HostRuntime) -> Result<(), Fail> {
+fn breaks_are_listed(rt: HostRuntime) -> Result<(), Fail> {
     let alloc = rt.alloc();
     let arities = arities(alloc)?;
-    for (sides, wanted) in [
+    for (text, breaks) in [
+        ("AAASxyz=AAxzAyz AAKxy=x", ""),
+        ("hn=1 hn=1 h0=1", ""),
+        ("otx=t oxt=t", " 5 0 0 1;"),
         (
-            [("AAASxyz", "AAxzAyz"), ("AAKxy", "x")].as_slice(),
-            [].as_slice(),
+            "ixyy=y g0x=0 gx1=1 Fpx=c psx=x hx=ky",
+            " 1 0 3 0; 2 5 1 5; 3 1 0 2; 4 3 1 4;",
         ),
-        (
-            [("hn", "1"), ("hn", "1"), ("h0", "1")].as_slice(),
-            [].as_slice(),
-        ),
-        (
-            [("otx", "t"), ("oxt", "t")].as_slice(),
-            [(5, 0, 0, 1)].as_slice(),
-        ),
-        (
-            [
-                ("ixyy", "y"),
-                ("g0x", "0"),
-                ("gx1", "1"),
-                ("Fpx", "c"),
-                ("psx", "x"),
-                ("hx", "ky"),
-            ]
-            .as_slice(),
-            [(1, 0, 3, 0), (2, 5, 1, 5), (3, 1, 0, 2), (4, 3, 1, 4)].as_slice(),
-        ),
-        (
-            [("hu", "1"), ("hv", "2"), ("h2", "2"), ("hn", "1")].as_slice(),
-            [(3, 0, 0, 1), (3, 1, 0, 3), (3, 2, 0, 3)].as_slice(),
-        ),
+        ("hu=1 hv=2 h2=2 hn=1", " 3 0 0 1; 3 1 0 3; 3 2 0 3;"),
     ] {
-        let Some(rules) = rules_of(alloc, sides)? else {
-            panic!(rt; "no equations: {sides:?}");
+        let Some(rules) = rules_of(alloc, text)? else {
+            panic!(rt; "no equations: {text}");
         };
         assert!(rt; are_well_formed(&rules, &arities));
-        assert!(rt; is_answered(alloc, rules, wanted), "{sides:?}");
+        let found = breaks_of(alloc, rules)?;
+        assert_eq!(rt; found.as_slice(), breaks.as_bytes(), "{text}");
     }
     Ok(())
 }

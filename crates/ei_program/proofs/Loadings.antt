@@ -21,7 +21,8 @@ use Rattle.ei_program.specs.declared.definitions.Equations.{Equations}
 use Rattle.ei_program.specs.declared.ready.Ready.{Ready}
 use Rattle.ei_program.specs.Definitions.{BreaksNone, Defines, definitions_in, definitions_of}
 use Rattle.ei_program.specs.Restrictions.{origin_of, broken_text, AreBroken}
-use Rattle.ei_program.specs.Loading.{AreUsable, IsReady, IsAdmitted, IsLoaded}
+use Rattle.ei_program.specs.Loading.{IsReady, IsLoaded}
+use Rattle.ei_program.specs.Admitting.{AreUsable, IsAdmitted}
 use Rattle.ei_program.proofs.Broken.{told_read, lists_read, none_read}
 
 module _ (syntax : Syntax) (file : List ℕ) (equations : Equations) where

@@ -1,12 +1,8 @@
--- Phases that come to one thing each come to one thing together.
-use Rattle.std.proofs.Common.{◌≡◌, Result, Ok, Err, inl, inr, refl, sym, subst}
-use Rattle.ei_program.specs.Phases.{HasOne, IsExact, Then}
+-- Phases of which each comes to one thing at most come to one thing at most together.
+use Rattle.std.proofs.Common.{◌≡◌, Result, Ok, Err, inl, inr, sym, subst}
+use Rattle.ei_program.specs.Phases.{HasOne, Then}
 
 module _ {E B C : Type 0} (First : Result B E → Type 0) (Second : B → Result C E → Type 0) where
-  some_then : (r : Result B E) → First r → ((found : B) → First (Ok found) → (s : Result C E) × Second found s) → (s : Result C E) × Then First Second s
-  some_then (Err end) p second = (Err end, inl (end, p, refl))
-  some_then (Ok found) p second = let (s, q) = second found p in (s, inr (found, p, q))
-
   pub then_one : HasOne First → ((found : B) → First (Ok found) → HasOne (Second found)) → (r s : Result C E) → Then First Second r → Then First Second s → r ≡ s
   then_one first second r s (inl (end, p, is)) (inl (end', q, is')) = let same : ◌≡◌ {A = Result B E} (Err end) (Err end') = first (Err end) (Err end') p q in cc (same, is, is')
   then_one first second r s (inl (end, p, is)) (inr (found, q, more)) = let same : ◌≡◌ {A = Result B E} (Err end) (Ok found) = first (Err end) (Ok found) p q in absurd (apart end found same)
@@ -23,9 +19,3 @@ module _ {E B C : Type 0} (First : Result B E → Type 0) (Second : B → Result
     where
       found_same : (a b : B) → ◌≡◌ {A = Result B E} (Ok a) (Ok b) → a ≡ b
       found_same a b same = cc (same)
-
-  pub then_exact : IsExact First → ((found : B) → First (Ok found) → IsExact (Second found)) → IsExact (Then First Second)
-  then_exact first second = record {
-    some = let (r, p) = first.some in some_then r p (λ found is. (second found is).some);
-    one = then_one first.one (λ found is. (second found is).one);
-  }

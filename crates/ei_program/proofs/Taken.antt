@@ -58,9 +58,9 @@ module _ (syntax : Syntax) (names : Table) (before left : Option (List ℕ)) (ta
   pub ends_taken : (fault : Fault) (end : End) → EndsSo held fault end → inputs.EndsAt (ReadsOne syntax names) BytesEnded held.limit taken held.place fault (end_of end)
   ends_taken fault end (inl (whole, e)) =
       inl ((λ cut. whole (subst (λ w. BytesEnded w fault) (sym window_taken) cut.0, goes_on_held cut.1)), ap end_of e)
-  ends_taken fault end (inr ((ended, more), inl (full, e))) =
+  ends_taken fault end (inr (inl ((ended, more), full, e))) =
       inr (inl ((subst (λ w. BytesEnded w fault) window_taken ended, goes_on more), sym (ap length window_taken) ∙ full, ap end_of e))
-  ends_taken fault end (inr ((ended, more), inr (short, e))) =
+  ends_taken fault end (inr (inr ((ended, more), short, e))) =
       inr (inr ((subst (λ w. BytesEnded w fault) window_taken ended, goes_on more), subst (λ n. n < inputs.window_bytes) (ap length window_taken) short, ap end_of e))
 
   -- ---- the whole input

@@ -8,13 +8,15 @@ use Rattle.term_input.specs.TermReading.{IsReadAs, AreFirst}
 use Rattle.ei_program.specs.declared.settings.Settings.{Settings}
 use Rattle.ei_program.specs.declared.stop.Stop.TheVariants.{NoMemory, ReadFailed, WriteFailed}
 use Rattle.ei_program.specs.declared.outcome.Outcome.{Outcome}
-use Rattle.ei_program.specs.declared.outcome.Outcome.TheVariants.{Answered, Questions, TermRefused, InputLong, Stopped}
+use Rattle.ei_program.specs.declared.outcome.Outcome.TheVariants.{Answered, Questions, TermRefused}
+use Rattle.ei_program.specs.declared.outcome.Outcome.TheVariants.{InputLong, Stopped}
 use Rattle.ei_program.specs.Definitions.{Definitions}
 use Rattle.ei_program.specs.Lines.{IsLine, SomeQuestion, AreLines, bytes_of}
 use Rattle.ei_program.specs.Outcomes.{Told, told_of}
 use Rattle.ei_program.specs.Done.{Rest, untouched, nothing, some_back, Done, IsLeft}
 
--- the terms of a text were answered by these lines up to this end: status 3 exactly where some line begins with `?`
+-- the terms of a text were answered by these lines up to this end: status 3 exactly where some line begins
+-- with `?`
 abbrev pub IsTold : End → List (List ℕ) → Told → Type 0
 IsTold whole lines told =
     (SomeQuestion lines × (told ≡ told_of Questions)) ⊎ ((¬ SomeQuestion lines) × (told ≡ told_of Answered))
@@ -56,7 +58,8 @@ pub record IsCutShort (settings : Settings) (d : Definitions) (text : List ℕ) 
   pub answered : AnswersText settings d None taken done
   pub output : written ≡ bytes_of done.lines
 
--- what is left of a text whose terms are answered, and what is written, by the outcome: all, or a beginning of it
+-- what is left of a text whose terms are answered, and what is written, by the outcome: all, or a beginning
+-- of it
 abbrev pub TextLeft : Settings → Definitions → List ℕ → Option (List ℕ) → Outcome → List ℕ → Type 0
 TextLeft settings d text left (Stopped NoMemory) written =
     (lines : List (List ℕ)) × AnswersFirst settings d text lines × (written ≡ bytes_of lines)

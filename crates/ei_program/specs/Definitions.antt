@@ -18,8 +18,8 @@ use Rattle.sequentiality.specs.Restrictions.{IsViolation}
 use Rattle.ei_program.specs.declared.definitions.Equations.{Equations}
 use Rattle.ei_program.specs.declared.ready.Ready.{Ready}
 
--- what is declared and included, the heads of each class of the file, and the equations, with the alternatives of
--- variables put in their places
+-- what is declared and included, the heads of each class of the file, and the equations, with the
+-- alternatives of variables put in their places
 pub record Definitions : Type 0 where
   pub names : Table
   pub classes : List (List ReadHead)
@@ -70,8 +70,8 @@ pub record IsAccepted (d : Definitions) : Type 0 where
   pub defines : Defines syntax file d
   pub regular : BreaksNone d
 
--- the root steps by the equations are exactly the instances of the file's own items: of its equations as they are
--- written, by substitutions that satisfy each qualifier, and of the operations that it includes
+-- the root steps by the equations are exactly the instances of the file's own items: of its equations as they
+-- are written, by substitutions that satisfy each qualifier, and of the operations that it includes
 abbrev pub HasWrittenSteps : Syntax → List ℕ → Definitions → Type 0
 HasWrittenSteps syntax text d = (read : ReadDefinitions) → Says (notation_of syntax) text read
     → (t u : Tree ReadHead)

@@ -12,5 +12,6 @@ pub mod Run
 pub mod Telling
 pub mod Taking
 pub mod Loading
+pub mod Admitting
 pub mod Reading
 pub mod Stepping

@@ -10,8 +10,8 @@ use Rattle.orthogonal_laws.specs.Past.{HasNoPast, IsFirstPast}
 use Rattle.ei_program.specs.declared.settings.Settings.{Settings}
 use Rattle.ei_program.specs.Definitions.{Definitions, system}
 
--- the form is normal and derivable from the term, and the only such one; the term's plain run reaches it within
--- the budget
+-- the form is normal and derivable from the term, and the only such one; the term's plain run reaches it
+-- within the budget
 pub record ReducesTo (budget : ℕ) (d : Definitions) (t form : Tree ReadHead) : Type 0 where
   pub derivable : IsDerivable (system d) t form
   pub normal : IsNormal (system d) form
@@ -21,7 +21,8 @@ pub record ReducesTo (budget : ℕ) (d : Definitions) (t form : Tree ReadHead) :
   pub length : HasLength (system d) t steps form
   pub within : steps ≤ budget
 
--- the line is the print of a normal form, no part of which has a value past the limits, and which is small enough
+-- the line is the print of a normal form, no part of which has a value past the limits, and which is small
+-- enough
 pub record PrintsForm (settings : Settings) (d : Definitions) (form : Tree ReadHead)
     (line : List ℕ) : Type 0 where
   pub clean : HasNoPast (system d) form
@@ -52,8 +53,8 @@ abbrev pub IsAnswered : Settings → Definitions → Tree ReadHead → List ℕ 
 IsAnswered settings d t line = (form : Tree ReadHead) × ReducesTo settings.budget d t form
     × IsFormLine settings d form line
 
--- the line says that the whole budget was used, and a redex is left; where some derivation ends in a normal form,
--- the plain run ends in it, and is longer than the budget
+-- the line says that the whole budget was used, and a redex is left; where some derivation ends in a normal
+-- form, the plain run ends in it, and is longer than the budget
 pub record IsSpent (budget : ℕ) (d : Definitions) (t : Tree ReadHead) (line : List ℕ) : Type 0 where
   pub last : Tree ReadHead
   pub run : PlainRun (system d) t budget last

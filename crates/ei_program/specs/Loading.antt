@@ -1,11 +1,8 @@
 -- What is known when a definitions file was loaded.
-use Rattle.std.specs.Prelude.{◌≡◌, ◌≢◌, ℕ, ◌≤◌, ◌<◌, ◌^◌, List, length, Result, Ok, Err}
+use Rattle.std.specs.Prelude.{◌≡◌, ◌≢◌, ℕ, ◌≤◌, List, Result, Ok, Err}
 use Rattle.std.specs.declared.option.Option.{Option}
 use Rattle.std.specs.declared.option.Option.TheVariants.{Some}
-use Rattle.std.specs.Prelude.{Vec}
-use Rattle.std.specs.declared.alloc.Global.{Global}
 use Rattle.eq_ports.specs.Causes.{Rose}
-use Rattle.term_lex.specs.declared.fault.FaultKind.TheVariants.{FileLong}
 use Rattle.term_lex.specs.declared.syntax.Syntax.{Syntax}
 use Rattle.symbol_table.specs.Reading.{AreLive}
 use Rattle.sequentiality.specs.Regular.{AreRegular}
@@ -13,25 +10,10 @@ use Rattle.orthogonal_laws.specs.Operations.{AreTruthsKnown}
 use Rattle.ei_program.specs.declared.stop.Stop.TheVariants.{NoMemory, ReadFailed, WriteFailed}
 use Rattle.ei_program.specs.declared.outcome.Outcome.{Outcome}
 use Rattle.ei_program.specs.declared.outcome.Outcome.TheVariants.{BadWords, FileRefused, Broken, Stopped}
-use Rattle.ei_program.specs.declared.definitions.Equations.{Equations}
 use Rattle.ei_program.specs.declared.ready.Ready.{Ready}
-use Rattle.ei_program.specs.Definitions.{Definitions, BreaksNone, IsAccepted, Defines, RefusesFile, definitions_in, definitions_of}
+use Rattle.ei_program.specs.Definitions.{Definitions, BreaksNone, IsAccepted, Defines, RefusesFile}
+use Rattle.ei_program.specs.Definitions.{definitions_of}
 use Rattle.ei_program.specs.Restrictions.{AreBroken}
-
--- these are the bytes of the file; or it is not there, or not taken whole
-abbrev pub IsFileTaken : Option (List ℕ) → Result (Vec ℕ Global) Outcome → Type 0
-IsFileTaken found (Ok bytes) = found ≡ Some bytes.items
-IsFileTaken found (Err (FileRefused fault)) =
-    (file : List ℕ) × (found ≡ Some file) × (2 ^ 24 < length file)
-    × (fault ≡ record { kind = FileLong; byte = 2 ^ 24 })
-IsFileTaken found (Err (Stopped NoMemory)) = Unit {0}
-IsFileTaken found (Err (Stopped ReadFailed)) = Unit {0}
-IsFileTaken found (Err outcome) = ⊥
-
--- each number in the equations is live, and the truth values are declared where the value of an operation is one
-pub record AreUsable (e : Equations) : Type 0 where
-  pub live : AreLive e.symbols e.rules
-  pub truths : AreTruthsKnown e.symbols e.rules
 
 -- the equations that a program holds are accepted, keep the restrictions, and can be used
 pub record IsReady (l : Ready) : Type 0 where
@@ -39,13 +21,6 @@ pub record IsReady (l : Ready) : Type 0 where
   pub regular : AreRegular l.regular
   pub live : AreLive l.symbols l.regular
   pub truths : AreTruthsKnown l.symbols l.regular
-
--- the equations break no restriction and are as before; or they break these; or memory ran out
-abbrev pub IsAdmitted : Equations → Result Ready Outcome → Type 0
-IsAdmitted equations (Ok loaded) = (definitions_of loaded ≡ definitions_in equations) × IsReady loaded
-IsAdmitted equations (Err (Broken breaks rules)) = AreBroken (definitions_in equations) breaks rules
-IsAdmitted equations (Err (Stopped NoMemory)) = Unit {0}
-IsAdmitted equations (Err outcome) = ⊥
 
 -- the file gives equations that break no restriction; or it is not accepted, with this outcome
 abbrev pub IsLoaded : Syntax → Option (List ℕ) → Result Ready Outcome → Type 0
@@ -59,7 +34,8 @@ IsLoaded syntax found (Err (Stopped NoMemory)) = Unit {0}
 IsLoaded syntax found (Err (Stopped ReadFailed)) = Unit {0}
 IsLoaded syntax found (Err outcome) = ⊥
 
--- where a read failed, the fault count rose, and else it is as before; nothing is written, and the words are not looked at
+-- where a read failed, the fault count rose, and else it is as before; nothing is written, and the words are
+-- not looked at
 pub record IsReadOutcome {T : Type 0} (before now : ℕ) (result : Result T Outcome) : Type 0 where
   pub later : before ≤ now
   pub failed : result ≡ Err (Stopped ReadFailed) → Rose before now

@@ -5,11 +5,6 @@ use Rattle.std.specs.Prelude.{◌≡◌, ◌⊎◌, Result, Ok, Err}
 abbrev pub HasOne : {R : Type 0} → (R → Type 0) → Type 0
 HasOne {R = R} Comes = (r s : R) → Comes r → Comes s → r ≡ s
 
--- the relation holds of one thing, and of no other
-pub record IsExact {R : Type 0} (Comes : R → Type 0) : Type 0 where
-  pub some : (r : R) × Comes r
-  pub one : HasOne Comes
-
 module _ {E B C : Type 0} where
   -- the first phase ends the run, or the second goes on with what it found
   abbrev pub Then : (Result B E → Type 0) → (B → Result C E → Type 0) → Result C E → Type 0

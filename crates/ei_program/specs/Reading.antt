@@ -1,5 +1,6 @@
 -- What comes next in the bytes that were taken of an input.
-use Rattle.std.specs.Prelude.{◌≡◌, ◌≢◌, ◌⊎◌, ℕ, ◌+◌, ◌-◌, ◌<◌, ◌≤◌, Bool, true, false, List, ◌++◌, length, take}
+use Rattle.std.specs.Prelude.{◌≡◌, ◌≢◌, ◌⊎◌, ℕ, ◌+◌, ◌-◌, ◌<◌, ◌≤◌, Bool, true, false, List, ◌++◌, length}
+use Rattle.std.specs.Prelude.{take}
 use Rattle.std.specs.Prelude.{Result, Ok, Err, Option, Some}
 use Rattle.std.specs.Io.KnownBytes.{IsAtEnd}
 use Rattle.eq_base.specs.Tree.{Tree}
@@ -40,14 +41,17 @@ window_of held = take inputs.window_bytes (readable held)
 abbrev pub MayChange : Held → Type 0
 MayChange held = MayTake held × (length held.bytes ≤ inputs.window_bytes)
 
+-- the window cuts that term off, where it has this fault
+abbrev pub IsCut : Held → Fault → Type 0
+IsCut held fault = BytesEnded (window_of held) fault × (length (window_of held) < length held.bytes)
+
 -- how reading ends at that term, with this fault
 abbrev pub EndsSo : Held → Fault → End → Type 0
 EndsSo held fault end =
-    (((BytesEnded (window_of held) fault × (length (window_of held) < length held.bytes)) → ⊥)
-    × (end ≡ Refused (inputs.fault_from held.place fault)))
-    ⊎ ((BytesEnded (window_of held) fault × (length (window_of held) < length held.bytes))
-    × (((length (window_of held) ≡ inputs.window_bytes) × (end ≡ Refused (inputs.too_long held.place)))
-    ⊎ ((length (window_of held) < inputs.window_bytes) × (end ≡ Long))))
+    ((¬ IsCut held fault) × (end ≡ Refused (inputs.fault_from held.place fault)))
+    ⊎ (IsCut held fault × (length (window_of held) ≡ inputs.window_bytes)
+    × (end ≡ Refused (inputs.too_long held.place)))
+    ⊎ (IsCut held fault × (length (window_of held) < inputs.window_bytes) × (end ≡ Long))
 
 -- ---- what is taken
 
@@ -92,8 +96,8 @@ module _ (syntax : Syntax) (names : Table) where
   abbrev pub window : (limit : ℕ) → List ℕ → ℕ → List ℕ
   window limit bytes from = inputs.window (ReadsOne syntax names) BytesEnded limit bytes from
 
-  -- the term that begins at the first byte that is held, or its fault and the end there, which no more bytes can
-  -- change
+  -- the term that begins at the first byte that is held, or its fault and the end there, which no more bytes
+  -- can change
   abbrev pub IsThing : Table → (old new : Held) → Next → List ℕ → Type 0
   IsThing table old new (nexts.Term t) taken = (len : ℕ)
       × ReadsOne syntax names (window old.limit taken old.place) (Ok (read table t, len))

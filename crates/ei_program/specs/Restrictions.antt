@@ -1,5 +1,6 @@
 -- How breaks of restrictions are told.
-use Rattle.std.specs.Prelude.{◌≡◌, ℕ, zero, suc, ◌+◌, ◌-◌, ◌<◌, List, [], ◌∷◌, ◌++◌, flat_map, map, length, take, codes, decimal, slice_get, Option, Some, nat_lt, ◌==◌, if◌then◌else◌}
+use Rattle.std.specs.Prelude.{◌≡◌, ℕ, zero, suc, ◌+◌, ◌-◌, ◌<◌, List, [], ◌∷◌, ◌++◌, flat_map, map, length}
+use Rattle.std.specs.Prelude.{take, codes, decimal, slice_get, Option, Some, nat_lt, ◌==◌, if◌then◌else◌}
 use Rattle.eq_base.specs.Tree.{Tree, Position, size, nth_position}
 use Rattle.eq_base.specs.Pattern.{PatternCell}
 use Rattle.eq_base.specs.Rewriting.{RightSide, pattern, operation, Rule}
@@ -52,7 +53,8 @@ abbrev pub joined_line : ℕ → (name at with_other : List ℕ) → List ℕ
 joined_line restriction name at with_other =
     codes "RE" ++ decimal restriction ++ codes " equation " ++ name ++ at ++ with_other ++ codes "\n"
 
--- the line of a break of a restriction by the equation of this name, at this place, and with that other equation
+-- the line of a break of a restriction by the equation of this name, at this place, and with that other
+-- equation
 abbrev pub broken_line : ℕ → (name place other : List ℕ) → List ℕ
 broken_line restriction name place other =
     joined_line restriction name (broken_at restriction place) (broken_with restriction other)
@@ -66,8 +68,8 @@ abbrev pub more_line : ℕ → List ℕ
 more_line zero = []
 more_line (suc n) = codes "ei: " ++ decimal (suc n) ++ codes " more\n"
 
--- the side at which a break of the restriction stands: the right side for RE2, where it is a pattern, and else the left
--- side
+-- the side at which a break of the restriction stands: the right side for RE2, where it is a pattern, and
+-- else the left side
 abbrev pub broken_side : {H : Type 0} → ℕ → Rule H → Tree (PatternCell H)
 broken_side restriction r = if restriction == 2 then right_of r.left r.right else r.left
 
@@ -100,8 +102,8 @@ module _ {H E : Type 0} (rule : E → Rule H) (origin : E → Origin) where
 abbrev pub origin_of : Equation → Origin
 origin_of e = e.origin
 
--- these are the breaks of the equations, of which there is one at least; the rules that came back tell of them as the
--- equations do
+-- these are the breaks of the equations, of which there is one at least; the rules that came back tell of
+-- them as the equations do
 pub record AreBroken (d : Definitions) (breaks : List Break) (rules : RuleList) : Type 0 where
   pub listed : Lists (Breaks d) breaks
   pub some : 0 < length breaks

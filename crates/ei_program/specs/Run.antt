@@ -116,7 +116,8 @@ IsInputKept given (Some name) of_input = of_input ≡ Some given.input
 IsInputKept given None of_input = Unit {0}
 
 -- a read of the terms failed behind a front of them, which was answered
-pub record IsStoppedShort (given : Given) (of_file of_input : Option (List ℕ)) (written : List ℕ) : Type 0 where
+pub record IsStoppedShort (given : Given) (of_file of_input : Option (List ℕ))
+    (written : List ℕ) : Type 0 where
   pub command : Command
   pub definitions : Definitions
   pub text : List ℕ
@@ -143,8 +144,8 @@ pub record HasBegun (given : Given) (lines : List (List ℕ)) : Type 0 where
 abbrev pub Begins : Given → List (List ℕ) → Type 0
 Begins given lines = (lines ≡ []) ⊎ HasBegun given lines
 
--- what is left of the chosen file and of the input, and written to the output, by the outcome: what is due, or a
--- beginning of it
+-- what is left of the chosen file and of the input, and written to the output, by the outcome: what is due,
+-- or a beginning of it
 abbrev pub Leaves : Given → (of_file of_input : Option (List ℕ)) → Outcome → List ℕ → Type 0
 Leaves given of_file of_input (Stopped NoMemory) written =
     (lines : List (List ℕ)) × Begins given lines × (written ≡ bytes_of lines)

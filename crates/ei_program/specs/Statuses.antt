@@ -1,7 +1,9 @@
 -- The numbers of statuses.
 use Rattle.std.specs.Prelude.{ℕ}
 use Rattle.ei_program.specs.declared.status.Status.{Status}
-use Rattle.ei_program.specs.declared.status.Status.TheVariants.{Answered, NoMemory, Words, Questions, File, Broken, Term, ReadFailed, WriteFailed, InputLong}
+use Rattle.ei_program.specs.declared.status.Status.TheVariants.{Answered, NoMemory, Words, Questions, File}
+use Rattle.ei_program.specs.declared.status.Status.TheVariants.{Broken, Term, ReadFailed, WriteFailed}
+use Rattle.ei_program.specs.declared.status.Status.TheVariants.{InputLong}
 
 -- the exit status of the process
 abbrev pub number_of : Status → ℕ

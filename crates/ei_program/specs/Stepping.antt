@@ -14,7 +14,8 @@ use Rattle.ei_program.specs.declared.reading.End.TheVariants as ends
 use Rattle.ei_program.specs.declared.answer.Step.{Step}
 use Rattle.ei_program.specs.declared.answer.Step.TheVariants.{Answer, Question, End, Stopped as StoppedBy}
 use Rattle.ei_program.specs.declared.outcome.Outcome.{Outcome}
-use Rattle.ei_program.specs.declared.outcome.Outcome.TheVariants.{Answered, Questions, TermRefused, InputLong, Stopped}
+use Rattle.ei_program.specs.declared.outcome.Outcome.TheVariants.{Answered, Questions, TermRefused}
+use Rattle.ei_program.specs.declared.outcome.Outcome.TheVariants.{InputLong, Stopped}
 use Rattle.ei_program.specs.Definitions.{Definitions}
 use Rattle.ei_program.specs.Lines.{IsFormLine, IsLine, IsQuestion, ended}
 use Rattle.ei_program.specs.Reading.{end_of, Goes, TermNext, Settles}

@@ -38,7 +38,8 @@ enum Step {
 fn write_line<O: Sink>(line: &[u8], output: &mut O) -> Step
     ensures written { WritesText line.now (O.taken output.old) (O.taken output.new) result }
     ensures later { O.faults output.old ≤ O.faults output.new }
-    ensures write { result ≡ Step.Stopped Stop.WriteFailed → Rose (O.faults output.old) (O.faults output.new) }
+    ensures write { result ≡ Step.Stopped Stop.WriteFailed
+        → Rose (O.faults output.old) (O.faults output.new) }
     ensures steady { result ≢ Step.Stopped Stop.WriteFailed → O.faults output.new ≡ O.faults output.old }
 {
     if write_whole(output, line).is_err() {
@@ -64,14 +65,17 @@ fn answer_next<I: Source, O: Sink>(
     requires within { stream.old.place ≤ stream.old.limit }
     ensures same { ready.new.regular ≡ ready.old.regular }
     ensures keeps { Keeps ready.old.symbols ready.new.symbols }
-    ensures given_up { ((stop : WhyStopped) → result ≢ Step.Stopped stop) → ready.new.symbols ≡ ready.old.symbols }
+    ensures given_up { ((stop : WhyStopped) → result ≢ Step.Stopped stop)
+        → ready.new.symbols ≡ ready.old.symbols }
     ensures left { StepLeft settings.now (definitions_of ready.old) stream.old stream.new
         (I.left input.old) (I.left input.new) (O.taken output.old) (O.taken output.new) result }
     ensures count { IsCounted (I.faults input.old) (I.faults input.new) stream.old stream.new }
     ensures through { I.through input.new ≡ I.through input.old }
     ensures output_later { O.faults output.old ≤ O.faults output.new }
-    ensures write { result ≡ Step.Stopped Stop.WriteFailed → Rose (O.faults output.old) (O.faults output.new) }
-    ensures output_steady { result ≢ Step.Stopped Stop.WriteFailed → O.faults output.new ≡ O.faults output.old }
+    ensures write { result ≡ Step.Stopped Stop.WriteFailed
+        → Rose (O.faults output.old) (O.faults output.new) }
+    ensures output_steady { result ≢ Step.Stopped Stop.WriteFailed
+        → O.faults output.new ≡ O.faults output.old }
 {
     let mark = ready.symbols.mark();
     let Ok(next) = next_term(alloc, settings.syntax, &mut ready.symbols, stream, input) else {
@@ -105,8 +109,8 @@ fn outcome_at(end: End, any_question: bool, state: SourceState) -> Outcome
     }
 }
 
-/// Answers the terms of an input, one after another. One of them is held at a time, and its line is written before
-/// the next one is read.
+/// Answers the terms of an input, one after another. One of them is held at a time, and its line is written
+/// before the next one is read.
 pub fn answer_input<I: Source, O: Sink>(
     alloc: Global,
     ready: &mut Ready,
@@ -124,8 +128,9 @@ pub fn answer_input<I: Source, O: Sink>(
     ensures through { I.through input.new ≡ I.through input.old }
     ensures input_later { I.faults input.old ≤ I.faults input.new }
     ensures read { result ≡ Outcome.Stopped Stop.ReadFailed → Rose (I.faults input.old) (I.faults input.new) }
-    ensures input_steady { result ≢ Outcome.Stopped Stop.ReadFailed → result ≢ Outcome.Stopped Stop.WriteFailed
-        → result ≢ Outcome.Stopped Stop.NoMemory → I.faults input.new ≡ I.faults input.old }
+    ensures input_steady { result ≢ Outcome.Stopped Stop.ReadFailed
+        → result ≢ Outcome.Stopped Stop.WriteFailed → result ≢ Outcome.Stopped Stop.NoMemory
+        → I.faults input.new ≡ I.faults input.old }
     ensures output_later { O.faults output.old ≤ O.faults output.new }
     ensures write { result ≡ Outcome.Stopped Stop.WriteFailed
         → Rose (O.faults output.old) (O.faults output.new) }
@@ -165,8 +170,9 @@ fn answer_chosen<F: Files, O: Sink>(
         (O.taken output.old) (O.taken output.new) }
     ensures files_later { F.faults files.old ≤ F.faults files.new }
     ensures read { result ≡ Outcome.Stopped Stop.ReadFailed → Rose (F.faults files.old) (F.faults files.new) }
-    ensures files_steady { result ≢ Outcome.Stopped Stop.ReadFailed → result ≢ Outcome.Stopped Stop.WriteFailed
-        → result ≢ Outcome.Stopped Stop.NoMemory → F.faults files.new ≡ F.faults files.old }
+    ensures files_steady { result ≢ Outcome.Stopped Stop.ReadFailed
+        → result ≢ Outcome.Stopped Stop.WriteFailed → result ≢ Outcome.Stopped Stop.NoMemory
+        → F.faults files.new ≡ F.faults files.old }
     ensures output_later { O.faults output.old ≤ O.faults output.new }
     ensures write { result ≡ Outcome.Stopped Stop.WriteFailed
         → Rose (O.faults output.old) (O.faults output.new) }
@@ -192,12 +198,14 @@ pub fn answer_file<F: Files, O: Sink>(
     requires input_bytes { settings.now.input_bytes ≤ 2 ^ 40 }
     ensures kept { F.named files.new ≡ F.named files.old }
     ensures left { (named : List ℕ → Option (List ℕ)) → F.named files.old ≡ Some named
-        → LeavesOn (FileLeft settings.now (definitions_of ready.old) (named name.now) (F.rest files.new) result)
+        → LeavesOn
+        (FileLeft settings.now (definitions_of ready.old) (named name.now) (F.rest files.new) result)
         (O.taken output.old) (O.taken output.new) }
     ensures files_later { F.faults files.old ≤ F.faults files.new }
     ensures read { result ≡ Outcome.Stopped Stop.ReadFailed → Rose (F.faults files.old) (F.faults files.new) }
-    ensures files_steady { result ≢ Outcome.Stopped Stop.ReadFailed → result ≢ Outcome.Stopped Stop.WriteFailed
-        → result ≢ Outcome.Stopped Stop.NoMemory → F.faults files.new ≡ F.faults files.old }
+    ensures files_steady { result ≢ Outcome.Stopped Stop.ReadFailed
+        → result ≢ Outcome.Stopped Stop.WriteFailed → result ≢ Outcome.Stopped Stop.NoMemory
+        → F.faults files.new ≡ F.faults files.old }
     ensures output_later { O.faults output.old ≤ O.faults output.new }
     ensures write { result ≡ Outcome.Stopped Stop.WriteFailed
         → Rose (O.faults output.old) (O.faults output.new) }

@@ -1,7 +1,7 @@
 // The equations of a definitions file.
 ghost use Rattle.std.specs.Prelude.{IfOk, IfErr};
 ghost use Rattle.def_file.specs.Errors.{IfRefused};
-ghost use Rattle.ei_program.specs.Loading.{AreUsable};
+ghost use Rattle.ei_program.specs.Admitting.{AreUsable};
 ghost use Rattle.ei_program.specs.Definitions.{Defines, RefusesFile, definitions_in};
 
 use def_file::{Definitions, FileError, read_definitions};
@@ -20,8 +20,8 @@ pub struct Equations {
     pub rules: Rules,
 }
 
-/// Reads the equations of a definitions file in the notation. Linear in the text, in the sizes of its terms, and in the
-/// cells of the equations that it gives.
+/// Reads the equations of a definitions file in the notation. Linear in the text, in the sizes of its terms,
+/// and in the nodes of the equations that it gives.
 ///
 /// # Errors
 ///

@@ -1,5 +1,5 @@
-// Whether a term can have ended in the bytes that were taken. No answer rests on it: it only says when a term whose
-// reading came to the end of the bytes is worth to be read again.
+// Whether a term can have ended in the bytes that were taken. No answer rests on it: it only says when a term
+// whose reading came to the end of the bytes is worth to be read again.
 
 /// Where the bytes stand behind those that were looked at.
 #[derive(Clone, Copy, Debug, PartialEq, Eq)]
@@ -14,8 +14,8 @@ enum Place {
     Escape,
 }
 
-/// The bytes of a term that were looked at, a piece at a time, for the first dot that ends a term: one that stands in
-/// no brackets, string or comment.
+/// The bytes of a term that were looked at, a piece at a time, for the first dot that ends a term: one that
+/// stands in no brackets, string or comment.
 #[derive(Drop)]
 pub struct Dots {
     looked_at: usize,
@@ -56,8 +56,8 @@ impl Dots {
         }
     }
 
-    /// Whether the first dot that ends a term stands in these bytes of the term, and not in those of an earlier call.
-    /// Each byte is looked at once.
+    /// Whether the first dot that ends a term stands in these bytes of the term, and not in those of an
+    /// earlier call. Each byte is looked at once.
     pub fn reach(&mut self, bytes: &[u8]) -> bool {
         'bytes: while !self.found && self.looked_at < bytes.len() {
             let byte = bytes[self.looked_at];

@@ -4,8 +4,8 @@ ghost use Rattle.term_lex.specs.Bytes.{is_blank};
 ghost use Rattle.term_lex.specs.Gaps.{IsGap};
 ghost use Rattle.term_lex.proofs.Gaps.{Passed};
 
-/// How many bytes at the front are blank or in a comment, and whether a comment is open behind them, where one may be
-/// open before them. Each of them is read once.
+/// How many bytes at the front are blank or in a comment, and whether a comment is open behind them, where
+/// one may be open before them. Each of them is read once.
 pub fn skipped(bytes: &[u8], in_comment: bool) -> (usize, bool)
     ensures within { result.0 ≤ length bytes.now }
     ensures passed { (text : List ℕ) (len : ℕ) → drop len text ≡ bytes.now

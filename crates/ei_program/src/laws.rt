@@ -13,14 +13,16 @@ ghost use Rattle.ei_program.specs.Done.{Done};
 ghost use Rattle.ei_program.specs.Answering.{AnswersText, AnswersFirst};
 ghost use Rattle.ei_program.specs.Run.{Given, IsDue, Begins};
 
-/// One thing at most is due of a run. What a run may have written before its end is a front of the lines that are due.
+/// One thing at most is due of a run. What a run may have written before its end is a front of the lines that
+/// are due.
 pub fn one_thing_is_due()
     ensures one { (given : Given) → HasOne (IsDue given) }
     ensures begun { (given : Given) (lines : List (List ℕ)) (done : Done) → Begins given lines
         → IsDue given done → IsFront lines done.lines }
 {}
 
-/// A text of terms has one answer at most. The lines that answer its first terms are a front of that answer's lines.
+/// A text of terms has one answer at most. The lines that answer its first terms are a front of that answer's
+/// lines.
 pub fn one_answer_is_due()
     ensures one { (settings : Settings) (d : Definitions) → IsAccepted d → (text : List ℕ)
         → HasOne (AnswersText settings d None text) }
@@ -29,9 +31,9 @@ pub fn one_answer_is_due()
         → AnswersText settings d None text done → IsFront lines done.lines }
 {}
 
-/// A term has one line at most. One that does not begin with `?` is the print of the normal form. Where any derivation
-/// ends in a normal form, there is a number, fixed by the equations and the term alone, from which on each budget answers
-/// with that form.
+/// A term has one line at most. One that does not begin with `?` is the print of the normal form. Where any
+/// derivation ends in a normal form, there is a number, fixed by the equations and the term alone, from which
+/// on each budget answers with that form.
 pub fn lines_are_right()
     ensures one { (settings : Settings) (d : Definitions) (t : Tree ReadHead) → HasOne (IsLine settings d t) }
     ensures printed { (settings : Settings) (d : Definitions) (t : Tree ReadHead) (line : List ℕ)

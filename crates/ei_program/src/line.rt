@@ -65,8 +65,8 @@ fn line_of_clean(
     printed(alloc, ready, settings, b"", form, 0)
 }
 
-/// The line of a normal form: its first part whose value is past the limits, or else its print, or that it is too
-/// large.
+/// The line of a normal form: its first part whose value is past the limits, or else its print, or that it is
+/// too large.
 fn line_of_form(
     alloc: Global,
     ready: &Ready,

@@ -3,7 +3,8 @@ ghost use Rattle.std.specs.Prelude.{◌≡◌, ℕ, List, Option, IfOk, IfErr, S
 ghost use Rattle.term_lex.specs.declared.syntax.Syntax.{Syntax as Notation};
 ghost use Rattle.ei_program.specs.Definitions.{Defines, definitions_in};
 ghost use Rattle.ei_program.specs.Outcomes.{CanBeTold};
-ghost use Rattle.ei_program.specs.Loading.{AreUsable, IsReady, IsFileTaken, IsAdmitted, IsLoaded, IsReadOutcome};
+ghost use Rattle.ei_program.specs.Loading.{IsReady, IsLoaded, IsReadOutcome};
+ghost use Rattle.ei_program.specs.Admitting.{AreUsable, IsFileTaken, IsAdmitted};
 ghost use Rattle.ei_program.specs.Taking.{IsTakenFrom, IsReadCount};
 
 use crate::definitions::{Equations, read_equations};
@@ -74,7 +75,13 @@ fn admit(alloc: Global, equations: Equations) -> Result<Ready, Outcome>
     }
 }
 
-/// What the named file defines in the notation, or the outcome of a run that does not accept it.
+/// The equations that the named file defines in the notation, ready to answer terms. Linear in the file and its
+/// equations, and then the checks of the restrictions.
+///
+/// # Errors
+///
+/// The outcome of a run that does not accept the file: it could not be read, it has a fault, its equations break a
+/// restriction, or memory ran out.
 pub fn load<F: Files>(
     alloc: Global,
     syntax: Syntax,

@@ -5,7 +5,8 @@ ghost use Rattle.eq_base.specs.Tree.{size, nth_subtree, nth_position};
 use eq_base::{NoMemory, Pattern};
 use std::alloc::Global;
 
-/// The numbers of the arguments on the way to a node, counted from 1. Linear in the nodes before it; fails when memory runs out.
+/// The numbers of the arguments on the way to a node, counted from 1. Linear in the nodes before it; fails
+/// when memory runs out.
 pub fn argument_numbers(
     alloc: Global,
     pattern: &Pattern,

@@ -39,7 +39,8 @@ pub enum Next {
     End(End),
 }
 
-/// Gives up blanks and comments, and says whether something else stands behind them; takes what is needed for it.
+/// Gives up blanks and comments, and says whether something else stands behind them; takes what is needed for
+/// it.
 fn skip_gap<I: Source>(stream: &mut Stream, input: &mut I) -> Result<bool, NoMemory>
     requires { stream.old.place ≤ stream.old.limit }
     ensures goes { IfOk result (λ stands. Goes (I.left input.old) (I.left input.new) stream.old stream.new
@@ -140,8 +141,8 @@ fn take_on<I: Source>(stream: &mut Stream, input: &mut I, dots: &mut Dots) -> Re
     }
 }
 
-/// The term that begins with the first byte that is held, or the end there. What is taken is read three times at most:
-/// a piece of it, up to the first dot that can end the term, and the whole window.
+/// The term that begins with the first byte that is held, or the end there. What is taken is read three times
+/// at most: a piece of it, up to the first dot that can end the term, and the whole window.
 fn next_thing<I: Source>(
     alloc: Global,
     syntax: Syntax,
@@ -176,8 +177,8 @@ fn next_thing<I: Source>(
     }
 }
 
-/// What comes next in an input: the next term, whose bytes are given up, or the end. As many bytes are taken as are
-/// needed for it, and at most a piece more.
+/// What comes next in an input: the next term, whose bytes are given up, or the end. As many bytes are taken
+/// as are needed for it, and at most a piece more.
 pub fn next_term<I: Source>(
     alloc: Global,
     syntax: Syntax,

@@ -4,7 +4,10 @@ ghost use Rattle.eq_base.specs.Tree.{size, nth_position};
 ghost use Rattle.eq_base.specs.Rules.{rule_of};
 ghost use Rattle.regularity.specs.Listing.{Lists};
 ghost use Rattle.sequentiality.specs.Violations.{IsViolation};
-ghost use Rattle.ei_program.specs.Restrictions.{origin_name, position_name, origin_of, broken_side, broken_at, broken_with, joined_line, line_of, break_line, broken_text, IsInList};
+ghost use Rattle.ei_program.specs.Restrictions.{origin_name, position_name, origin_of, broken_side};
+ghost use Rattle.ei_program.specs.Restrictions.{broken_at};
+ghost use Rattle.ei_program.specs.Restrictions.{broken_with, joined_line, line_of, break_line, broken_text};
+ghost use Rattle.ei_program.specs.Restrictions.{IsInList};
 
 use crate::positions::argument_numbers;
 use eq_base::{Equation, NoMemory, Origin, Pattern, Right, Rules};
@@ -66,7 +69,8 @@ fn broken_at(alloc: Global, restriction: u8, place: &str) -> Result<String, NoMe
     Ok(text)
 }
 
-/// With which other equation a break of the restriction is: ` with equation ` and its name, but for RE1 and RE2.
+/// With which other equation a break of the restriction is: ` with equation ` and its name, but for RE1 and
+/// RE2.
 fn broken_with(alloc: Global, restriction: u8, other: &str) -> Result<String, NoMemory>
     ensures { IfOk result (λ text. string_bytes text ≡ broken_with restriction other.now) }
 {
@@ -113,7 +117,8 @@ fn line_by(
 /// The line of a break.
 fn break_line(alloc: Global, rules: &Rules, found: Break) -> Result<String, NoMemory>
     requires { IsInList rules.now.equations found }
-    ensures { IfOk result (λ line. string_bytes line ≡ break_line rule_of origin_of rules.now.equations found) }
+    ensures { IfOk result (λ line. string_bytes line
+        ≡ break_line rule_of origin_of rules.now.equations found) }
 {
     let one = rules.equation(found.first as usize);
     let other = rules.equation(found.second as usize);
@@ -123,7 +128,8 @@ fn break_line(alloc: Global, rules: &Rules, found: Break) -> Result<String, NoMe
 /// What is told of breaks: how many they are, the first 50 of them, and how many more there are.
 pub fn broken_text(alloc: Global, rules: &Rules, breaks: &Breaks) -> Result<String, NoMemory>
     requires { Lists (IsViolation rules.now) breaks.now }
-    ensures { IfOk result (λ text. string_bytes text ≡ broken_text rule_of origin_of rules.now.equations breaks.now) }
+    ensures { IfOk result (λ text. string_bytes text
+        ≡ broken_text rule_of origin_of rules.now.equations breaks.now) }
 {
     let count = breaks.len();
     let told = count.min(MOST_TOLD);

@@ -82,8 +82,9 @@ pub fn run<F: Files, I: Source, O: Sink>(
         ⊎ Rose (I.faults input.old) (I.faults input.new) }
     ensures write { result ≡ Outcome.Stopped Stop.WriteFailed
         → Rose (O.faults output.old) (O.faults output.new) }
-    ensures files_steady { result ≢ Outcome.Stopped Stop.ReadFailed → result ≢ Outcome.Stopped Stop.WriteFailed
-        → result ≢ Outcome.Stopped Stop.NoMemory → F.faults files.new ≡ F.faults files.old }
+    ensures files_steady { result ≢ Outcome.Stopped Stop.ReadFailed
+        → result ≢ Outcome.Stopped Stop.WriteFailed → result ≢ Outcome.Stopped Stop.NoMemory
+        → F.faults files.new ≡ F.faults files.old }
     ensures input_steady { result ≢ Outcome.Stopped Stop.ReadFailed
         → result ≢ Outcome.Stopped Stop.WriteFailed → result ≢ Outcome.Stopped Stop.NoMemory
         → I.faults input.new ≡ I.faults input.old }

@@ -26,8 +26,8 @@ pub struct Taken {
     pub ending: Ending,
 }
 
-/// Takes the bytes of a text to its end, to a failed read, or until `limit` bytes and one more were taken. Nothing is read
-/// after an end or a failure. Linear in the bytes that are taken.
+/// Takes the bytes of a text to its end, to a failed read, or until `limit` bytes and one more were taken.
+/// Nothing is read after an end or a failure. Linear in the bytes that are taken.
 pub fn take_up_to<S: Source>(alloc: Global, source: &mut S, limit: usize) -> Result<Taken, NoMemory>
     requires { limit ≤ 2 ^ 48 }
     ensures taken { IfOk result (IsTakenFrom limit (S.left source.old) (S.left source.new)) }

@@ -1,11 +1,13 @@
 // The top calls: a run, or the answering of terms, and what is told of it.
-ghost use Rattle.std.specs.Prelude.{◌≡◌, ◌≢◌, ◌⊎◌, ◌≤◌, ◌^◌, ℕ, List, [], Option, None, Some, map, string_bytes};
+ghost use Rattle.std.specs.Prelude.{◌≡◌, ◌≢◌, ◌⊎◌, ◌≤◌, ◌^◌, ℕ, List, [], Option, None, Some, map};
+ghost use Rattle.std.specs.Prelude.{string_bytes};
 ghost use Rattle.eq_ports.specs.Causes.{Rose};
 ghost use Rattle.symbol_table.specs.Table.{Keeps};
 ghost use Rattle.term_lex.specs.declared.syntax.Syntax.{Syntax};
 ghost use Rattle.command_line.specs.declared.task.Task.{Task};
 ghost use Rattle.command_line.specs.Asked.{Asks, IsCommandLine};
-ghost use Rattle.ei_program.specs.Definitions.{Definitions, Defines, BreaksNone, HasWrittenSteps, definitions_of};
+ghost use Rattle.ei_program.specs.Definitions.{Definitions, Defines, BreaksNone, HasWrittenSteps};
+ghost use Rattle.ei_program.specs.Definitions.{definitions_of};
 ghost use Rattle.ei_program.specs.Loading.{IsReady};
 ghost use Rattle.ei_program.specs.Answering.{AnswersText, TextLeft};
 ghost use Rattle.ei_program.specs.Run.{IsDue, Leaves};
@@ -20,8 +22,8 @@ use crate::telling::tell;
 use eq_ports::{Files, Sink, Source};
 use std::alloc::Global;
 
-/// Answers the terms of the input by these equations, each by a line on the output. What is refused is told on the
-/// errors.
+/// Answers the terms of the input by these equations, each by a line on the output. What is refused is told
+/// on the errors.
 pub fn answer_terms<I: Source, O: Sink, E: Sink>(
     alloc: Global,
     ready: &mut Ready,
@@ -37,7 +39,8 @@ pub fn answer_terms<I: Source, O: Sink, E: Sink>(
         → HasOutcome (TextLeft settings.now (definitions_of ready.old) bytes (I.left input.new))
         (O.taken output.old) (O.taken output.new) (E.taken errors.old) (E.taken errors.new) result }
 
-    // Where no fault count rose and memory was found, all terms are answered, up to the end of the input's reading.
+    // Where no fault count rose and memory was found, all terms are answered, up to the end of the input's
+    // reading.
     ensures exact { (bytes : List ℕ) → I.left input.old ≡ Some bytes
         → (¬ Rose (I.faults input.old) (I.faults input.new))
         → (¬ Rose (O.faults output.old) (O.faults output.new))
@@ -64,9 +67,10 @@ pub fn answer_terms<I: Source, O: Sink, E: Sink>(
     tell(alloc, &outcome, errors)
 }
 
-/// Answers terms by the equations of the file that the words name, each by a line on the output: the print of its
-/// normal form, or a line that begins with `?`. The terms come from a second file that the words name, or from the
-/// input. With `--check` it tells instead how many equations the file gives. What is refused is told on the errors.
+/// Answers terms by the equations of the file that the words name, each by a line on the output: the print of
+/// its normal form, or a line that begins with `?`. The terms come from a second file that the words name, or
+/// from the input. With `--check` it tells instead how many equations the file gives. What is refused is told
+/// on the errors.
 pub fn ei<F: Files, I: Source, O: Sink, E: Sink>(
     alloc: Global,
     words: Vec<String>,
@@ -75,9 +79,9 @@ pub fn ei<F: Files, I: Source, O: Sink, E: Sink>(
     output: &mut O,
     errors: &mut E,
 ) -> Status
-    // What is left of the input, and what stands on the output and the errors, by the status, in every run: a line
-    // that does not begin with `?` is the print of the only normal term that is derivable from the term that was
-    // read, by the equations that were read.
+    // What is left of the input, and what stands on the output and the errors, by the status, in every run: a
+    // line that does not begin with `?` is the print of the only normal term that is derivable from the term
+    // that was read, by the equations that were read.
     ensures leaves { (named : List ℕ → Option (List ℕ)) (bytes : List ℕ) → F.named files.old ≡ Some named
         → I.left input.old ≡ Some bytes
         → HasOutcome
@@ -85,17 +89,17 @@ pub fn ei<F: Files, I: Source, O: Sink, E: Sink>(
         (F.rest files.new) (I.left input.new))
         (O.taken output.old) (O.taken output.new) (E.taken errors.old) (E.taken errors.new) result }
 
-    // Where no fault count rose and memory was found, something is due by the words, the files and the input, which is
-    // one thing at most by the law of `one_thing_is_due`, and all of it was done.
+    // Where no fault count rose and memory was found, something is due by the words, the files and the input,
+    // which is one thing at most by the law of `one_thing_is_due`, and all of it was done.
     ensures exact { (named : List ℕ → Option (List ℕ)) (bytes : List ℕ) → F.named files.old ≡ Some named
         → I.left input.old ≡ Some bytes
         → (¬ Rose (F.faults files.old) (F.faults files.new))
         → (¬ Rose (I.faults input.old) (I.faults input.new))
         → (¬ Rose (O.faults output.old) (O.faults output.new))
         → (¬ Rose (E.faults errors.old) (E.faults errors.new))
-        → DoesDue (IsDue (record { words = map string_bytes words.items; named = named; input = bytes })) bytes
-        (I.left input.new) (O.taken output.old) (O.taken output.new) (E.taken errors.old) (E.taken errors.new)
-        result }
+        → DoesDue (IsDue (record { words = map string_bytes words.items; named = named; input = bytes }))
+        bytes (I.left input.new) (O.taken output.old) (O.taken output.new)
+        (E.taken errors.old) (E.taken errors.new) result }
 
     // Where all terms of a named file are answered, nothing is left of it.
     ensures whole { (named : List ℕ → Option (List ℕ)) (task : Task) (file terms : List ℕ)

@@ -12,9 +12,9 @@ use Rattle.regularity.specs.WellFormed.{AreWellFormed}
 use Rattle.eq_base.specs.RuleList.{RuleList}
 use Rattle.eq_base.specs.declared.head.Head.{Head}
 use Rattle.eq_base.specs.declared.head.Head.TheVariants.{Symbol, Numeral, Atom, Text}
-use Rattle.match_tables.specs.Items.{ItemSet}
-use Rattle.match_tables.specs.Reachable.{ArePast}
-use Rattle.match_tables.specs.Demand.{left_sides_of}
+use Rattle.match_laws.specs.Items.{ItemSet}
+use Rattle.match_laws.specs.Reachable.{ArePast}
+use Rattle.match_laws.specs.Demand.{left_sides_of}
 use Rattle.match_tables.specs.Answering.{StandsFor}
 use Rattle.match_tables.specs.Rows.{MeetsNone, IsRight, IsRow}
 use Rattle.match_tables.specs.Tabled.{AreRows, AreRoots, AreTablesOf}

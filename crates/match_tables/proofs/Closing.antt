@@ -4,8 +4,8 @@ use Rattle.std.specs.Prelude.{Contains}
 use Rattle.eq_base.specs.Tree.{Tree}
 use Rattle.eq_base.specs.Pattern.{PatternCell, Classes}
 use Rattle.eq_base.proofs.Lists.{all_contained}
-use Rattle.match_tables.specs.Items.{ItemSet, AreFurther, IsMet, IsPlain, IsRead, IsSkip}
-use Rattle.match_tables.specs.Reachable.{total_items, IsReachable, start, by_read, by_skip, ArePast}
+use Rattle.match_laws.specs.Items.{ItemSet, AreFurther, IsMet, IsPlain, IsRead, IsSkip}
+use Rattle.match_laws.specs.Reachable.{total_items, IsReachable, start, by_read, by_skip, ArePast}
 use Rattle.match_tables.proofs.Counting.{no-more-items, same-members}
 
 module _ {H : Type 0} (lefts : List (Tree (PatternCell H))) where

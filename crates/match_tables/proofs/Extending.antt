@@ -5,8 +5,8 @@ use Rattle.std.proofs.lemmas.List.{take_more, take_all}
 use Rattle.eq_base.specs.RuleList.{RuleList}
 use Rattle.eq_base.specs.declared.head.Head.{Head}
 use Rattle.eq_base.specs.Pattern.{variable}
-use Rattle.match_tables.specs.Items.{ItemSet, IsCell, IsPlain, IsSkip}
-use Rattle.match_tables.specs.Demand.{left_sides_of}
+use Rattle.match_laws.specs.Items.{ItemSet, IsCell, IsPlain, IsSkip}
+use Rattle.match_laws.specs.Demand.{left_sides_of}
 use Rattle.match_tables.specs.Steps.{IsMoved, LeadsTo}
 use Rattle.match_tables.specs.Searching.{Extends}
 use Rattle.match_tables.specs.Answering.{SkipLeads}

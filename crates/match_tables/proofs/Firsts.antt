@@ -10,8 +10,8 @@ use Rattle.eq_base.specs.declared.head.Head.{Head}
 use Rattle.eq_base.specs.declared.head.Cell as cells
 use Rattle.eq_base.specs.RuleList.{RuleList}
 use Rattle.eq_base.specs.declared.rules.Equation.{Equation}
-use Rattle.match_tables.specs.Items.{Item, ItemSet, IsCell, IsLastTested}
-use Rattle.match_tables.specs.Demand.{left_sides_of}
+use Rattle.match_laws.specs.Items.{Item, ItemSet, IsCell, IsLastTested}
+use Rattle.match_laws.specs.Demand.{left_sides_of}
 use Rattle.match_tables.specs.Steps.{Moves}
 use Rattle.match_tables.specs.Completing.{IsEnd, AreEnds, CompletesAt, IsCompletedBy, IsAnswered, IsLess}
 use Rattle.match_tables.specs.declared.completed.End.{End}

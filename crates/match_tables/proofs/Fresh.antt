@@ -5,8 +5,8 @@ use Rattle.eq_base.specs.RuleList.{RuleList}
 use Rattle.eq_base.specs.declared.head.Head.{Head}
 use Rattle.eq_base.specs.declared.head.Head.TheVariants.{Symbol, Numeral, Atom, Text}
 use Rattle.regularity.specs.WellFormed.{AreWellFormed}
-use Rattle.match_tables.specs.Items.{ItemSet}
-use Rattle.match_tables.specs.Reachable.{by_read, by_skip}
+use Rattle.match_laws.specs.Items.{ItemSet}
+use Rattle.match_laws.specs.Reachable.{by_read, by_skip}
 use Rattle.match_tables.specs.Searching.{KeepsReachable}
 use Rattle.match_tables.specs.Rows.{HaveNamed}
 use Rattle.match_tables.specs.declared.step.Step.TheVariants.{Read, Other, Skip}

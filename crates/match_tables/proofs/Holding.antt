@@ -3,10 +3,10 @@ use Rattle.std.proofs.Common.{Result, Err, IfErr, ◌≡◌, ◌≢◌, ℕ, suc
 use Rattle.eq_base.specs.RuleList.{RuleList}
 use Rattle.eq_base.specs.Pattern.{PatternCell}
 use Rattle.eq_base.specs.declared.head.Head.{Head}
-use Rattle.match_tables.specs.Items.{ItemSet}
-use Rattle.match_tables.specs.Reachable.{total_items}
-use Rattle.match_tables.specs.Reachable as reachable
-use Rattle.match_tables.specs.Demand.{left_sides_of}
+use Rattle.match_laws.specs.Items.{ItemSet}
+use Rattle.match_laws.specs.Reachable.{total_items}
+use Rattle.match_laws.specs.Reachable as reachable
+use Rattle.match_laws.specs.Demand.{left_sides_of}
 use Rattle.match_tables.specs.Sets.{Interns, AreDistinct}
 use Rattle.match_tables.specs.Steps.{LeadsTo}
 use Rattle.match_tables.specs.Moving.{AreItemsOf}

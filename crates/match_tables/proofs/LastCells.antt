@@ -7,7 +7,7 @@ use Rattle.eq_base.specs.RuleList.{RuleList}
 use Rattle.eq_base.specs.declared.head.Head.{Head}
 use Rattle.eq_base.specs.declared.rules.Equation.{Equation}
 use Rattle.regularity.specs.WellFormed.{IsWellFormed, AreWellFormed}
-use Rattle.match_tables.specs.Demand.{left_sides_of}
+use Rattle.match_laws.specs.Demand.{left_sides_of}
 use Rattle.match_tables.specs.Ending.{IsEndOf}
 use Rattle.match_tables.specs.Completing.{IsEnd, AreEnds}
 use Rattle.match_tables.specs.declared.completed.End.{End}

@@ -12,15 +12,6 @@ pub mod Naming
 pub mod Inserted
 pub mod Counted
 pub mod Rooted
-pub mod Fronts
-pub mod Meeting
-pub mod Passing
-pub mod Reached
-pub mod TermSets
-pub mod Demanding
-pub mod Beside
-pub mod Unmixed
-pub mod SetLaws
 pub mod Depths
 pub mod Counting
 pub mod Closing

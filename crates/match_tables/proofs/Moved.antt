@@ -18,8 +18,8 @@ use Rattle.eq_base.proofs.Lists.{all_both, all_contained}
 use Rattle.regularity.specs.WellFormed.{AreWellFormed}
 use Rattle.regularity.specs.Looking.{IsPlaceOf}
 use Rattle.match_tables.proofs.Places.{contains_from_place}
-use Rattle.match_tables.specs.Items.{Item, ItemSet, Precedes, IsOrdered, IsCell, HasCell}
-use Rattle.match_tables.specs.Demand.{left_sides_of}
+use Rattle.match_laws.specs.Items.{Item, ItemSet, Precedes, IsOrdered, IsCell, HasCell}
+use Rattle.match_laws.specs.Demand.{left_sides_of}
 use Rattle.match_tables.specs.Steps.{Moves, LeadsTo}
 use Rattle.match_tables.specs.Moving.{AreItemsOf, MovesOn, AreMovedRoots}
 use Rattle.match_tables.specs.declared.step.Step.{Step}

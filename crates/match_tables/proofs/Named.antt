@@ -11,8 +11,8 @@ use Rattle.eq_base.specs.declared.head.Head.{Head}
 use Rattle.eq_base.specs.declared.head.Head.TheVariants.{Symbol, Numeral, Atom, Text}
 use Rattle.eq_base.proofs.ClassMembers.{same_head_decides, symbol_class, listed_class}
 use Rattle.regularity.specs.WellFormed.{AreWellFormed}
-use Rattle.match_tables.specs.Items.{ItemSet, IsCell, IsMet}
-use Rattle.match_tables.specs.Demand.{left_sides_of}
+use Rattle.match_laws.specs.Items.{ItemSet, IsCell, IsMet}
+use Rattle.match_laws.specs.Demand.{left_sides_of}
 use Rattle.match_tables.specs.Steps.{Moves, IsMoved, LeadsTo}
 use Rattle.match_tables.specs.Completing.{IsCompletedBy, CompletesAt, IsAnswered}
 use Rattle.match_tables.specs.Rows.{Names, HaveNamed, MeetsNone, IsRight, IsRow}

@@ -9,8 +9,8 @@ use Rattle.eq_base.specs.RuleList.{RuleList}
 use Rattle.eq_base.specs.declared.head.Head.{Head}
 use Rattle.eq_base.specs.declared.head.Cell as cells
 use Rattle.eq_base.specs.declared.rules.Equation.{Equation}
-use Rattle.match_tables.specs.Items.{Item, ItemSet, IsCell, WantsRead, WantsSkip}
-use Rattle.match_tables.specs.Demand.{left_sides_of}
+use Rattle.match_laws.specs.Items.{Item, ItemSet, IsCell, WantsRead, WantsSkip}
+use Rattle.match_laws.specs.Demand.{left_sides_of}
 use Rattle.match_tables.specs.Moving.{AreItemsOf}
 use Rattle.match_tables.specs.Rows.{HasNamed, HaveNamed, HasAll}
 use Rattle.match_tables.proofs.Moved.{contains-push, get-contained, read-cell, cell-of, place-of, place-there, kind_of-root_cell}

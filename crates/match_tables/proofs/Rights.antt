@@ -4,9 +4,9 @@ use Rattle.std.proofs.lemmas.Bool.{cases_lt}
 use Rattle.std.proofs.lemmas.Option.{slice_get_within}
 use Rattle.eq_base.specs.Meeting.{in_class_of}
 use Rattle.eq_base.specs.RuleList.{RuleList}
-use Rattle.match_tables.specs.Demand.{left_sides_of}
+use Rattle.match_laws.specs.Demand.{left_sides_of}
 use Rattle.eq_base.specs.declared.head.Head.{Head}
-use Rattle.match_tables.specs.Items.{ItemSet, IsMet, IsRead, IsCompleted, IsFirstCompleted, IsDepth}
+use Rattle.match_laws.specs.Items.{ItemSet, IsMet, IsRead, IsCompleted, IsFirstCompleted, IsDepth}
 use Rattle.match_tables.specs.Steps.{IsMoved, LeadsTo}
 use Rattle.match_tables.specs.Completing.{AreEnds, CompletesAt, IsCompletedBy, IsAnswered}
 use Rattle.match_tables.specs.Rows.{MeetsNone, IsRight}

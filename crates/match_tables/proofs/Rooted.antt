@@ -12,8 +12,8 @@ use Rattle.eq_base.specs.declared.head.Head.TheVariants.{Symbol}
 use Rattle.eq_base.specs.declared.head.Cell as cells
 use Rattle.eq_base.specs.declared.rules.Equation.{Equation}
 use Rattle.regularity.specs.WellFormed.{AreWellFormed}
-use Rattle.match_tables.specs.Items.{ItemSet, IsCell, IsMet}
-use Rattle.match_tables.specs.Demand.{left_sides_of}
+use Rattle.match_laws.specs.Items.{ItemSet, IsCell, IsMet}
+use Rattle.match_laws.specs.Demand.{left_sides_of}
 use Rattle.match_tables.specs.Searching.{Extends}
 use Rattle.match_tables.specs.Rows.{IsRight, IsRow}
 use Rattle.match_tables.specs.Tabled.{AreRows, AreRoots, IsBelow, AreRootsBelow}

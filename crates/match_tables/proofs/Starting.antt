@@ -3,8 +3,8 @@ use Rattle.std.proofs.Common.{◌≡◌, ℕ, zero, suc, ◌<◌, ◌≤◌, Lis
 use Rattle.std.specs.Prelude.{Contains}
 use Rattle.std.proofs.lemmas.Option.{none-some}
 use Rattle.eq_base.specs.RuleList.{RuleList}
-use Rattle.match_tables.specs.Items.{ItemSet}
-use Rattle.match_tables.specs.Reachable.{total_items, start}
+use Rattle.match_laws.specs.Items.{ItemSet}
+use Rattle.match_laws.specs.Reachable.{total_items, start}
 use Rattle.match_tables.specs.Moving.{AreItemsOf}
 use Rattle.match_tables.specs.Searching.{Extends, IsFindable, AreFound}
 use Rattle.match_tables.specs.Answering.{StandsFor}

@@ -3,8 +3,8 @@ use Rattle.std.specs.Prelude.{◌≡◌, ℕ, List, Some, slice_get}
 use Rattle.eq_base.specs.Meeting.{in_class_of}
 use Rattle.eq_base.specs.RuleList.{RuleList}
 use Rattle.eq_base.specs.declared.head.Head.{Head}
-use Rattle.match_tables.specs.Items.{ItemSet, IsRead, IsSkip, IsCompleted, IsFirstCompleted, WantsRead, WantsSkip, WantsNothing}
-use Rattle.match_tables.specs.Demand.{left_sides_of}
+use Rattle.match_laws.specs.Items.{ItemSet, IsRead, IsSkip, IsCompleted, IsFirstCompleted, WantsRead, WantsSkip, WantsNothing}
+use Rattle.match_laws.specs.Demand.{left_sides_of}
 use Rattle.match_tables.specs.declared.advance.Advance.{Advance}
 use Rattle.match_tables.specs.declared.advance.Advance.TheVariants.{Go, Redex}
 use Rattle.match_tables.specs.declared.advance.Want.{Want}

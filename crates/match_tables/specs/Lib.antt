@@ -1,7 +1,3 @@
-pub mod Items
-pub mod Reading
-pub mod Reachable
-pub mod Demand
 pub mod Steps
 pub mod Moving
 pub mod Sets

@@ -3,8 +3,8 @@ use Rattle.std.specs.Prelude.{◌≡◌, ◌↔◌, ℕ, suc, ◌<◌, List, Con
 use Rattle.eq_base.specs.RuleList.{RuleList}
 use Rattle.eq_base.specs.Pattern.{PatternCell}
 use Rattle.eq_base.specs.declared.head.Head.{Head}
-use Rattle.match_tables.specs.Items.{ItemSet, HasCell, IsCell, IsOrdered}
-use Rattle.match_tables.specs.Demand.{left_sides_of}
+use Rattle.match_laws.specs.Items.{ItemSet, HasCell, IsCell, IsOrdered}
+use Rattle.match_laws.specs.Demand.{left_sides_of}
 use Rattle.match_tables.specs.Steps.{Moves}
 use Rattle.match_tables.specs.declared.step.Step.{Step}
 

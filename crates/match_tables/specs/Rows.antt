@@ -5,8 +5,8 @@ use Rattle.eq_base.specs.Meeting.{in_class_of, class_number}
 use Rattle.eq_base.specs.RuleList.{RuleList}
 use Rattle.eq_base.specs.declared.head.Head.{Head}
 use Rattle.eq_base.specs.declared.meeting.SymbolClass.TheVariants.{Numerals, Atoms, TruthValues, Strings}
-use Rattle.match_tables.specs.Items.{ItemSet, IsCell, IsMet}
-use Rattle.match_tables.specs.Demand.{left_sides_of}
+use Rattle.match_laws.specs.Items.{ItemSet, IsCell, IsMet}
+use Rattle.match_laws.specs.Demand.{left_sides_of}
 use Rattle.match_tables.specs.Completing.{IsAnswered}
 use Rattle.match_tables.specs.Steps.{LeadsTo}
 use Rattle.match_tables.specs.Answering.{StandsFor, IsWanted, SkipLeads}

@@ -2,9 +2,9 @@
 use Rattle.std.specs.Prelude.{◌≡◌, ℕ, ◌<◌, ◌≤◌, List, Some, slice_get}
 use Rattle.eq_base.specs.Meeting.{in_class_of}
 use Rattle.eq_base.specs.RuleList.{RuleList}
-use Rattle.match_tables.specs.Items.{ItemSet}
-use Rattle.match_tables.specs.Reachable.{total_items, IsReachable, ArePast}
-use Rattle.match_tables.specs.Demand.{left_sides_of}
+use Rattle.match_laws.specs.Items.{ItemSet}
+use Rattle.match_laws.specs.Reachable.{total_items, IsReachable, ArePast}
+use Rattle.match_laws.specs.Demand.{left_sides_of}
 use Rattle.match_tables.specs.Steps.{LeadsTo}
 use Rattle.match_tables.specs.Moving.{AreItemsOf}
 use Rattle.match_tables.specs.Sets.{AreDistinct, Interns}

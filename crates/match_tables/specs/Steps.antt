@@ -4,8 +4,8 @@ use Rattle.eq_base.specs.Pattern.{PatternCell, variable, restricted, IsTested, M
 use Rattle.eq_base.specs.Meeting.{in_class_of}
 use Rattle.eq_base.specs.RuleList.{RuleList}
 use Rattle.eq_base.specs.declared.head.Head.{Head}
-use Rattle.match_tables.specs.Items.{ItemSet, IsCell, Holds, AreFurther}
-use Rattle.match_tables.specs.Demand.{left_sides_of}
+use Rattle.match_laws.specs.Items.{ItemSet, IsCell, Holds, AreFurther}
+use Rattle.match_laws.specs.Demand.{left_sides_of}
 use Rattle.match_tables.specs.declared.step.Step.{Step}
 use Rattle.match_tables.specs.declared.step.Step.TheVariants.{Read, Other, Skip}
 

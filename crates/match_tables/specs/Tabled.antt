@@ -6,9 +6,9 @@ use Rattle.eq_base.specs.RuleList.{RuleList}
 use Rattle.eq_base.specs.declared.head.Head.{Head}
 use Rattle.eq_base.specs.declared.head.Head.TheVariants.{Symbol}
 use Rattle.regularity.specs.WellFormed.{AreWellFormed}
-use Rattle.match_tables.specs.Items.{ItemSet, IsCell, IsMet}
-use Rattle.match_tables.specs.Reachable.{ArePast}
-use Rattle.match_tables.specs.Demand.{left_sides_of}
+use Rattle.match_laws.specs.Items.{ItemSet, IsCell, IsMet}
+use Rattle.match_laws.specs.Reachable.{ArePast}
+use Rattle.match_laws.specs.Demand.{left_sides_of}
 use Rattle.match_tables.specs.Completing.{AreEnds}
 use Rattle.match_tables.specs.Searching.{AreFound}
 use Rattle.match_tables.specs.Answering.{StandsFor}

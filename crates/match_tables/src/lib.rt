@@ -4,7 +4,6 @@
 pub mod advance;
 mod completed;
 mod further;
-pub mod laws;
 mod row;
 mod search;
 mod sets;
@@ -13,6 +12,4 @@ mod tables;
 
 pub use advance::{Advance, Want};
 pub use tables::Tables;
-
-
 

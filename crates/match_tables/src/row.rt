@@ -6,7 +6,7 @@ ghost use Rattle.eq_base.specs.Meeting.{class_number};
 ghost use Rattle.eq_base.specs.RuleList.{RuleList};
 ghost use Rattle.match_tables.specs.declared.step.Step.TheVariants.{Other};
 ghost use Rattle.regularity.specs.WellFormed.{AreWellFormed};
-ghost use Rattle.match_tables.specs.Items.{ItemSet};
+ghost use Rattle.match_laws.specs.Items.{ItemSet};
 ghost use Rattle.match_tables.specs.Moving.{AreItemsOf};
 ghost use Rattle.match_tables.specs.Completing.{AreEnds};
 ghost use Rattle.match_tables.specs.Searching.{Extends, AreFound, IsStopped};

@@ -1,9 +1,9 @@
 // The search for the reachable item sets.
 ghost use Rattle.std.specs.Prelude.{◌≡◌, ◌<◌, ◌≤◌, [], ◌∷◌, length, slice_get, Some, IfOk, IfErr};
 ghost use Rattle.regularity.specs.WellFormed.{AreWellFormed};
-ghost use Rattle.match_tables.specs.Reachable.{total_items};
+ghost use Rattle.match_laws.specs.Reachable.{total_items};
 ghost use Rattle.match_tables.specs.Completing.{AreEnds};
-ghost use Rattle.match_tables.specs.Items.{ItemSet};
+ghost use Rattle.match_laws.specs.Items.{ItemSet};
 
 use crate::completed::{End, first_completed};
 use crate::further::{Item, further};
@@ -63,7 +63,7 @@ pub struct Search {
 
 impl Model for Search {
     ghost use Rattle.std.specs.Prelude.{◌≡◌, ℕ, List};
-    ghost use Rattle.match_tables.specs.Reachable.{total_items};
+    ghost use Rattle.match_laws.specs.Reachable.{total_items};
 
     ghost Value = { List (List (ℕ × ℕ)) };
 

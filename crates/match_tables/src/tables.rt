@@ -31,7 +31,7 @@ pub struct Tables {
 }
 
 impl Tables {
-    ghost use Rattle.match_tables.specs.Items.{ItemSet};
+    ghost use Rattle.match_laws.specs.Items.{ItemSet};
     ghost use Rattle.match_tables.specs.Answering.{StandsFor, IsWanted, IsAdvance, SkipLeads};
     ghost use Rattle.match_tables.specs.Rows.{MeetsNone, IsRight};
     ghost use Rattle.match_tables.specs.Tabled.{IsState, IsBuilt};

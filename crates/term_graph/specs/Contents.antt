@@ -1,5 +1,6 @@
 -- What the vectors of a store hold.
-use Rattle.std.specs.Prelude.{◌≡◌, ℕ, zero, suc, ◌+◌, ◌<◌, ◌≤◌, List, [], Bool, map, take, drop, length, slice_index_or}
+use Rattle.std.specs.Prelude.{◌≡◌, ℕ, ℤ, ◌*◌, ◌^◌, zero, suc, ◌+◌, ◌<◌, ◌≤◌, List, [], Bool, map, take, drop, length, slice_index_or}
+use Rattle.std.specs.Int.{w128, cast_signed}
 use Rattle.std.specs.List.{AllByRecursion}
 use Rattle.eq_base.specs.declared.head.Head as heads
 use Rattle.eq_base.specs.declared.head.Head.TheVariants as head
@@ -8,10 +9,14 @@ use Rattle.term_graph.specs.declared.content.Content.TheVariants.{Symbol, Numera
 use Rattle.graph_laws.specs.Numbered.{Numbered}
 use Rattle.term_graph.specs.Shapes.{Shape, own, same, IsAcyclic, trees_in}
 
+-- the integer whose bits are these halves
+abbrev pub whole_of : ℕ → ℕ → ℤ
+whole_of high low = cast_signed w128 (high * 2 ^ 64 + low)
+
 -- what the node holds; a symbol's arguments stand one after another in the vector of arguments
 abbrev pub shape_of : List ℕ → Content → Shape heads.Head
 shape_of args (Symbol s arity first) = own (head.Symbol s) (take arity (drop first args))
-shape_of args (Numeral i) = own (head.Numeral i) []
+shape_of args (Numeral high low) = own (head.Numeral (whole_of high low)) []
 shape_of args (Atom a) = own (head.Atom a) []
 shape_of args (Text t) = own (head.Text t) []
 shape_of args (Same m) = same m
@@ -23,15 +28,19 @@ shapes_of args nodes = map (shape_of args) nodes
 -- the node is no indirection
 abbrev pub IsOwn : Content → Type 0
 IsOwn (Symbol s arity first) = Unit {0}
-IsOwn (Numeral i) = Unit {0}
+IsOwn (Numeral high low) = Unit {0}
 IsOwn (Atom a) = Unit {0}
 IsOwn (Text t) = Unit {0}
 IsOwn (Same m) = ⊥
 
+-- the node holds this integer
+abbrev pub IsNumeral : ℤ → Content → Type 0
+IsNumeral i c = (high : ℕ) × (low : ℕ) × (c ≡ Numeral high low) × (whole_of high low ≡ i)
+
 -- the head of a node that is no indirection
 abbrev pub head_in : Content → heads.Head
 head_in (Symbol s arity first) = head.Symbol s
-head_in (Numeral i) = head.Numeral i
+head_in (Numeral high low) = head.Numeral (whole_of high low)
 head_in (Atom a) = head.Atom a
 head_in (Text t) = head.Text t
 head_in (Same m) = head.Symbol 0
@@ -39,7 +48,7 @@ head_in (Same m) = head.Symbol 0
 -- how many arguments the node has
 abbrev pub arity_in : Content → ℕ
 arity_in (Symbol s arity first) = arity
-arity_in (Numeral i) = 0
+arity_in (Numeral high low) = 0
 arity_in (Atom a) = 0
 arity_in (Text t) = 0
 arity_in (Same m) = 0
@@ -47,7 +56,7 @@ arity_in (Same m) = 0
 -- where the arguments of the node begin
 abbrev pub first_in : Content → ℕ
 first_in (Symbol s arity first) = first
-first_in (Numeral i) = 0
+first_in (Numeral high low) = 0
 first_in (Atom a) = 0
 first_in (Text t) = 0
 first_in (Same m) = 0
@@ -77,7 +86,7 @@ passed zero nodes n = 0
 passed (suc k) nodes n =
     elim (slice_index_or nodes n (Symbol 0 0 0)) [
       | Symbol s arity first ↦ 0
-      | Numeral i ↦ 0
+      | Numeral high low ↦ 0
       | Atom a ↦ 0
       | Text t ↦ 0
       | Same m ↦ suc (passed k nodes m)

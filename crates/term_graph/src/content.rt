@@ -2,18 +2,21 @@
 ghost use Rattle.std.specs.Prelude.{◌≡◌, ◌⊎◌, ◌<◌, ℕ, List, take, drop, length};
 ghost use Rattle.eq_base.specs.Cells.{TakesArguments};
 ghost use Rattle.term_graph.specs.Shapes.{own};
-ghost use Rattle.term_graph.specs.Contents.{shape_of, IsOwn, head_in, arity_in, first_in, IsChained, Leads};
+ghost use Rattle.term_graph.specs.Contents.{shape_of, IsOwn, IsNumeral, whole_of, head_in, arity_in, first_in, IsChained, Leads};
 
 use eq_base::Head;
 
-/// What a node holds: a head, or an indirection. It takes 32 bytes.
+// How many values half of an integer has.
+const HALF: u128 = 1 << 64;
+
+/// What a node holds: a head, or an indirection. It takes 24 bytes.
 #[derive(Clone, Copy)]
 pub enum Content {
     /// A symbol, by its number, with how many arguments it has and where they begin in the vector of
     /// arguments.
     Symbol(u32, u8, usize),
-    /// An integer.
-    Numeral(i128),
+    /// An integer, by its halves.
+    Numeral(u64, u64),
     /// An undeclared name, by its number.
     Atom(usize),
     /// A string, by its number.
@@ -41,10 +44,18 @@ impl Content {
     {
         match head {
             Head::Symbol(number) => Content::Symbol(number, arity, first),
-            Head::Numeral(value) => Content::Numeral(value),
+            Head::Numeral(value) => Content::of_numeral(value),
             Head::Atom(number) => Content::Atom(number),
             Head::Text(number) => Content::Text(number),
         }
+    }
+
+    // An integer. Its bits are halved, since a node of a whole one would take 32 bytes.
+    fn of_numeral(value: i128) -> Content
+        ensures { IsNumeral value result }
+    {
+        let bits = value.cast_unsigned();
+        Content::Numeral((bits / HALF) as u64, (bits % HALF) as u64)
     }
 
     /// The head of a node that is no indirection.
@@ -54,7 +65,7 @@ impl Content {
     {
         match self {
             Content::Symbol(number, _, _) => Head::Symbol(number),
-            Content::Numeral(value) => Head::Numeral(value),
+            Content::Numeral(high, low) => Head::Numeral(whole(high, low)),
             Content::Atom(number) => Head::Atom(number),
             Content::Text(number) => Head::Text(number),
             Content::Same(_) => unreachable!(),
@@ -80,6 +91,13 @@ impl Content {
             _ => 0,
         }
     }
+}
+
+// The integer of which these are the halves.
+fn whole(high: u64, low: u64) -> i128
+    ensures { result ≡ whole_of high low }
+{
+    (u128::from(high) * HALF + u128::from(low)).cast_signed()
 }
 
 /// The node to which indirections lead; a node that is none leads to itself.

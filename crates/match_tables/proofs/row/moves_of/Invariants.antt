@@ -1,5 +1,5 @@
 use Rattle.std.proofs.Common.{◌≡◌, take, slice_get, Some}
-use Rattle.match_tables.specs.Items.{ItemSet}
+use Rattle.match_laws.specs.Items.{ItemSet}
 use Rattle.match_tables.specs.Searching.{Extends, AreFound}
 use Rattle.match_tables.specs.Rows.{AreRight}
 use Rattle.match_tables.proofs.row.moves_of.Given as goal

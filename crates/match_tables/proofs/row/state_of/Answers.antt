@@ -1,5 +1,5 @@
 use Rattle.std.proofs.Common.{◌≡◌, slice_get, Some, sym, ap, subst, ◌∙◌}
-use Rattle.match_tables.specs.Items.{ItemSet}
+use Rattle.match_laws.specs.Items.{ItemSet}
 use Rattle.match_tables.specs.Searching.{Extends, KeepsReachable}
 use Rattle.match_tables.specs.Answering.{IsWanted}
 use Rattle.match_tables.specs.Rows.{HaveNamed, IsRow, AreRight, IsRight}

@@ -1,9 +1,9 @@
 use Rattle.std.proofs.Common.{◌<◌, ◌≤◌, [], length, None, Some, sym, ap, subst, ◌∙◌, arith}
 use Rattle.std.proofs.lemmas.Option.{slice_get-get_or}
 use Rattle.eq_base.specs.Meeting.{in_class_of}
-use Rattle.match_tables.specs.Items.{IsMet}
+use Rattle.match_laws.specs.Items.{IsMet}
 use Rattle.match_tables.specs.Rows.{IsRight}
-use Rattle.match_tables.specs.Demand.{left_sides_of}
+use Rattle.match_laws.specs.Demand.{left_sides_of}
 use Rattle.match_tables.specs.declared.step.Step.TheVariants.{Read}
 use Rattle.match_tables.proofs.Rights.{root-right, nowhere-right}
 use Rattle.match_tables.proofs.tables.Tables.on_root.Goals as goal

@@ -1,7 +1,0 @@
-use Rattle.std.proofs.Common.{rules}
-use Rattle.std.specs.List.{IsDistinct}
-use Rattle.ei_program.proofs.tests.files.Goals as goal
-
-pub new-requires-clause-distinct : goal.new-requires-clause-distinct
-unfolding IsDistinct
-new-requires-clause-distinct c = rw c.in_ok-list.ensures.items (rw (c.in_ok-equations.ensures, c.in_ok-named_terms.ensures, c.in_ok-option.ensures) (search rules))

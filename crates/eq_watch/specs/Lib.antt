@@ -1,0 +1,9 @@
+pub mod Watching
+pub mod Counting
+pub mod Tracing
+pub mod Profiling
+pub mod Sizing
+pub mod Telling
+pub mod Summing
+pub mod Noting
+pub mod Using

@@ -1,0 +1,5 @@
+//! Tests of the crates on which the machine stands.
+#![tactic(auto)]
+
+#[cfg(test)]
+mod stores;

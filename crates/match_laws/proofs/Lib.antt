@@ -1,0 +1,9 @@
+pub mod Fronts
+pub mod Passing
+pub mod Reached
+pub mod Meeting
+pub mod TermSets
+pub mod Beside
+pub mod Demanding
+pub mod Unmixed
+pub mod SetLaws
