@@ -1,5 +1,5 @@
 -- Events that watches were told of, one after the other, and fronts of them.
-use Rattle.std.proofs.Common.{◌≡◌, ℕ, zero, suc, Bool, true, false, List, [], ◌∷◌, ◌++◌, length, take, refl, sym, ap, arith}
+use Rattle.std.proofs.Common.{◌≡◌, ℕ, zero, suc, Bool, true, false, List, [], ◌∷◌, ◌++◌, length, take, refl, sym, ap, ◌∙◌, arith}
 use Rattle.std.proofs.lemmas.List.{take_all}
 use Rattle.eq_watch.specs.declared.event.Event.{Event}
 use Rattle.eq_watch.specs.Watching.{WatchState, moved, moved_by}
@@ -36,12 +36,28 @@ told-append (false ∷ on) events more [] = refl
 told-append (true ∷ on) events more (watch ∷ all) = cc (moved_by-append watch events more, told-append on events more all)
 told-append (false ∷ on) events more (watch ∷ all) = ap (λ rest. watch ∷ rest) (told-append on events more all)
 
-told_none : (on : List Bool) (all : List WatchState) → told on [] all ≡ all
-told_none [] all = refl
-told_none (true ∷ on) [] = refl
-told_none (false ∷ on) [] = refl
-told_none (true ∷ on) (watch ∷ all) = ap (λ rest. watch ∷ rest) (told_none on all)
-told_none (false ∷ on) (watch ∷ all) = ap (λ rest. watch ∷ rest) (told_none on all)
+-- all of some events and the first of more are the first of all of them
+take-append : (events more : List Event) (count : ℕ)
+    → (all : ℕ) × (take all (events ++ more) ≡ events ++ take count more)
+take-append [] more count = (count, refl)
+take-append (event ∷ events) more count =
+    let rest = take-append events more count in (suc rest.0, ap (λ all. event ∷ all) rest.1)
+
+-- watches that are told of events, and then of the first of more, are told of the first of all of them
+pub fronts-append : (on : List Bool) (events more : List Event) (all new : List WatchState)
+    → ToldFronts on more (told on events all) new → ToldFronts on (events ++ more) all new
+fronts-append [] events more [] new h = h
+fronts-append [] events more (watch ∷ all) new h = h
+fronts-append (true ∷ on) events more [] new h = h
+fronts-append (false ∷ on) events more [] new h = h
+fronts-append (true ∷ on) events more (watch ∷ all) [] h = h
+fronts-append (false ∷ on) events more (watch ∷ all) [] h = h
+fronts-append (true ∷ on) events more (watch ∷ all) (told ∷ new) h =
+    let count = take-append events more h.0.0 in (
+      (count.0, h.0.1 ∙ (sym (moved_by-append watch events (take h.0.0 more)) ∙ ap (moved_by watch) (sym count.1))),
+      fronts-append on events more all new h.1,
+    )
+fronts-append (false ∷ on) events more (watch ∷ all) (told ∷ new) h = (h.0, fronts-append on events more all new h.1)
 
 -- watches that some were told so are told fronts
 pub fronts_from : (on : List Bool) (event : Event) (all new : List WatchState) (i : ℕ)

@@ -18,7 +18,8 @@ profiled numbers event = used_again numbers event.equation
 
 -- the line of an equation
 abbrev pub profile_line : (equation times : ℕ) → List ℕ
-profile_line equation times = codes "equation " ++ decimal equation ++ codes " used " ++ decimal times ++ codes "\n"
+profile_line equation times =
+    codes "equation " ++ decimal equation ++ codes " used " ++ decimal times ++ codes "\n"
 
 -- a line for each equation that was used
 abbrev pub profile_text : List ℕ → List ℕ

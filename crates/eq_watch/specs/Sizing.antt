@@ -7,8 +7,10 @@ use Rattle.eq_watch.specs.Counting.{sum_up_to_last}
 -- how many replacements there were, how many nodes they made, and the number of nodes after the last
 abbrev pub sized : List ℕ → Event → List ℕ
 sized (replaced ∷ made ∷ last ∷ []) event =
-    sum_up_to_last replaced 1 ∷ sum_up_to_last made event.made ∷ sum_up_to_last event.first_made event.made ∷ []
-sized _ event = 1 ∷ event.made ∷ sum_up_to_last event.first_made event.made ∷ []
+    sum_up_to_last replaced 1 ∷ sum_up_to_last made event.made
+    ∷ sum_up_to_last event.first_made event.made ∷ []
+sized _ event =
+    sum_up_to_last 0 1 ∷ sum_up_to_last 0 event.made ∷ sum_up_to_last event.first_made event.made ∷ []
 
 -- the line of the sums
 abbrev pub sizes_line : (replaced made last : ℕ) → List ℕ

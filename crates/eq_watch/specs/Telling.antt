@@ -34,7 +34,8 @@ abbrev pub ToldFronts : List Bool → List Event → List WatchState → List Wa
 ToldFronts on events [] new = new ≡ []
 ToldFronts [] events old new = new ≡ old
 ToldFronts (on ∷ rest) events (watch ∷ old) [] = ⊥
-ToldFronts (on ∷ rest) events (watch ∷ old) (told ∷ new) = IsToldFront on events watch told × ToldFronts rest events old new
+ToldFronts (on ∷ rest) events (watch ∷ old) (told ∷ new) =
+    IsToldFront on events watch told × ToldFronts rest events old new
 
 -- a name turns a watch on: `all`, or one to which the watch answers yes
 abbrev pub is_turned_on : List ℕ → WatchState → Bool

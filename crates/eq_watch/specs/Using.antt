@@ -15,7 +15,8 @@ IsInOrder all = IsNonDecreasingBy (λ used. used.equation) all
 
 -- smaller equations stand before this place, and no smaller ones from it on
 abbrev pub IsPlaceOf : ℕ → List Used → ℕ → Type 0
-IsPlaceOf equation all at = IsPartitionPoint (λ used. used.equation < equation) (λ used. equation ≤ used.equation) all at
+IsPlaceOf equation all at =
+    IsPartitionPoint (λ used. used.equation < equation) (λ used. equation ≤ used.equation) all at
 
 -- the line of an equation
 abbrev pub used_line : Used → List ℕ

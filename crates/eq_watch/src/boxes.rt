@@ -23,7 +23,8 @@ fn tell_one(watch: &mut Box<dyn Watch>, event: Event) -> Result<(), NoMemory>
 /// Out of memory; some of these watches are then as they were.
 pub fn tell(watch: &mut Vec<Box<dyn Watch>>, on: &[bool], event: Event) -> Result<(), NoMemory>
     requires { length on.now ≡ vec_len watch.old }
-    ensures ok { OnOk result (map state watch.new.items ≡ told on.now (event ∷ []) (map state watch.old.items)) }
+    ensures ok { OnOk result
+        (map state watch.new.items ≡ told on.now (event ∷ []) (map state watch.old.items)) }
     ensures count { vec_len watch.new ≡ vec_len watch.old }
     ensures err { OnErr result
         (ToldFronts on.now (event ∷ []) (map state watch.old.items) (map state watch.new.items)) }
@@ -93,15 +94,16 @@ fn answers(watch: &Box<dyn Watch>, name: &str) -> bool
     watch.name_is(name)
 }
 
-/// For each watch whether a name turns it on: `all` turns on every one. `None` where the name is another one to
-/// which no watch answers yes.
+/// For each watch whether a name turns it on: `all` turns on every one. `None` where the name is another one
+/// to which no watch answers yes.
 pub fn named(
     alloc: Global,
     watch: &Vec<Box<dyn Watch>>,
     name: &str,
 ) -> Result<Option<Vec<bool>>, NoMemory>
     ensures count { IfOk result (λ found. IfSome found (λ on. vec_len on ≡ vec_len watch.now)) }
-    ensures known { IfOk result (λ found. is_some found ≡ is_watch_name name.now (map state watch.now.items)) }
+    ensures known { IfOk result
+        (λ found. is_some found ≡ is_watch_name name.now (map state watch.now.items)) }
     ensures on { IfOk result (λ found. IfSome found
         (λ on. on.items ≡ map (is_turned_on name.now) (map state watch.now.items))) }
 {

@@ -3,6 +3,7 @@
 
 mod boxes;
 mod event;
+pub mod laws;
 mod profile;
 mod sizes;
 mod text;

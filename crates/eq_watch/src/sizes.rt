@@ -17,7 +17,8 @@ struct Sums {
     last: u64,
 }
 
-/// The watch `sizes`, which sums up what the replacements made, and takes no memory. Its sums stop at 2^64 - 1.
+/// The watch `sizes`, which sums up what the replacements made, and takes no memory. Its sums stop at
+/// 2^64 - 1.
 #[derive(Drop)]
 pub struct Sizes {
     sums: Option<Sums>,

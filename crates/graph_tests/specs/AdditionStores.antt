@@ -106,7 +106,8 @@ start_trees = with_first (numbered_plus 0 first fourth) []
 
 -- after node 0 is replaced
 abbrev pub one_step : List (Numbered heads.Head)
-one_step = with_first (numbered_successor 0 (numbered_plus 6 second fourth)) (numbered_plus 6 second fourth ∷ [])
+one_step = with_first (numbered_successor 0 (numbered_plus 6 second fourth))
+    (numbered_plus 6 second fourth ∷ [])
 
 -- after node 6 is replaced too
 abbrev pub two_steps : List (Numbered heads.Head)

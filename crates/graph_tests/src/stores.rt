@@ -1,7 +1,5 @@
 // Stores: the numbers of nodes, sizes, numerals.
 ghost use Rattle.std.specs.Prelude.{◌≡◌, ◌≤◌, ◌+◌, IfOk};
-ghost use Rattle.eq_base.specs.Cells.{CellTakesArguments};
-ghost use Rattle.eq_base.specs.declared.rules.Equation.{Equation};
 ghost use Rattle.graph_tests.specs.AdditionStores.{two_and_one, zero_equation, successor_equation, addition_rules, start_trees, one_step, two_steps, three_steps};
 
 use eq_base::{

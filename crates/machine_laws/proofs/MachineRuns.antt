@@ -30,7 +30,7 @@ module _ {H : Type 0} (system : System H) (w : IsWellFormedSystem system) (o : I
     pub holds : Holds system w o arity k now root p
 
   -- a part of a store's tree is the tree of its number
-  part_stands : (trees : List (Numbered H)) (outer above : List (Frame (H × ℕ))) (s : Numbered H) (m : ℕ) → AreShared trees → slice_get trees root ≡ Some (plug outer (plug above s)) → root_number s ≡ m → slice_get trees m ≡ Some s
+  pub part_stands : (trees : List (Numbered H)) (outer above : List (Frame (H × ℕ))) (s : Numbered H) (m : ℕ) → AreShared trees → slice_get trees root ≡ Some (plug outer (plug above s)) → root_number s ≡ m → slice_get trees m ≡ Some s
   part_stands trees outer above s m shared stands own =
       let whole = all_get (λ t. AllParts (λ p. slice_get trees (root_number p) ≡ Some p) t) trees root (plug outer (plug above s)) shared stands in
       let here = part-here (λ p. slice_get trees (root_number p) ≡ Some p) s (parts_below _ above s (parts_below _ outer (plug above s) whole)) in

@@ -12,6 +12,7 @@ use Rattle.graph_laws.specs.Numbered.{Numbered, plain, root_number, AreShared}
 use Rattle.graph_laws.specs.Runs.{IsReplaced, IsNextNode}
 use Rattle.machine_laws.specs.Frames.{Frame, plug}
 use Rattle.machine_laws.specs.Normalising.{AreSettledAround}
+use Rattle.machine_laws.specs.Completions.{FitsFirstAbove}
 use Rattle.machine_laws.specs.Scanning.{ComesTo}
 use Rattle.machine_laws.specs.Ways.{plain_all, plain_frames, put_frames}
 use Rattle.machine_laws.specs.Going.{IsWay}
@@ -60,6 +61,8 @@ module _ {H : Type 0} (system : System H) (w : IsWellFormedSystem system) (o : I
     pub first : IsFirst system e (plain (plug below t))
     pub items : ItemSet
     pub holds : Holds system w o arity k trees root (reading outer above (plug below t) items)
+    pub fit : FitsFirstAbove system (plain_frames inner) (plain t) e height
+    pub node_is : plug fit.inner (plain t) ≡ plain (plug below t)
 
   pub found_above : (trees : List (Numbered H)) (root : ℕ) (outer inner : List (Frame (H × ℕ))) (l : H × ℕ) (args : Forest (H × ℕ)) (items : ItemSet) (e height : ℕ) → Holds system w o arity k trees root (reading outer inner (node l args) items) →
       IsFirstCompleted system.in_class (left_sides system) items l.0 e height → FoundAbove trees root outer inner (node l args) e height
@@ -85,6 +88,8 @@ module _ {H : Type 0} (system : System H) (w : IsWellFormedSystem system) (o : I
         first = subst (λ z. IsFirst system e z) node_is x.first;
         items = c.0;
         holds = (subst (λ z. slice_get trees root ≡ Some (plug outer z)) tree_is holds.0, subst (λ z. KeepArities arity (grow (plain (plug outer z)) empty)) tree_is holds.1, subst (λ z. AreSettledAround system (plain_frames outer) (plain z)) tree_is holds.2, c.1);
+        fit = x;
+        node_is = node_is;
       }
 
   -- a redex at which the machine stands is the next node of the graph run

@@ -1,6 +1,7 @@
 // What a reading by item sets finds, and that it may go on after a replacement: each is the contract of a
 // function that does nothing.
-ghost use Rattle.std.specs.Prelude.{◌≡◌, ◌↔◌, ℕ, ◌<◌, ◌≤◌, List, length, Option, [], ◌++◌, Some, slice_get};
+ghost use Rattle.std.specs.Prelude.{◌≡◌, ◌⊎◌, ◌↔◌, ℕ, suc, ◌<◌, ◌≤◌, Option, Some};
+ghost use Rattle.std.specs.Prelude.{List, [], ◌++◌, length, slice_get};
 ghost use Rattle.eq_base.specs.Tree.{Tree, Forest, node, empty, grow, Position};
 ghost use Rattle.eq_base.specs.Storing.{join};
 ghost use Rattle.eq_base.specs.Pattern.{PatternCell};
@@ -15,7 +16,7 @@ ghost use Rattle.symbol_table.specs.Table.{Table, HasOneNumberEach};
 ghost use Rattle.symbol_table.specs.Reading.{read_head, read, read_pattern, read_system, IsLiveHead, AreLive};
 ghost use Rattle.sequentiality.specs.Regular.{AreRegular};
 ghost use Rattle.orthogonal_laws.specs.Readings.{AreRegularIn};
-ghost use Rattle.orthogonal_laws.specs.Orthogonal.{IsOrthogonal, IsLawful};
+ghost use Rattle.orthogonal_laws.specs.Orthogonal.{IsWellFormedSystem, IsOrthogonal, IsLawful};
 ghost use Rattle.orthogonal_laws.specs.Strategy.{IsDemandedRedex, HasNoDemandedRedex, IsNext, HasLength};
 ghost use Rattle.match_laws.specs.Items.{ItemSet, IsRead, IsSkip, IsCompleted, IsFirstCompleted};
 ghost use Rattle.match_laws.specs.Items.{WantsRead, WantsSkip, WantsNothing};
@@ -76,6 +77,17 @@ pub fn no_value_settles<H>()
         → (found : FitsFirstAbove system frames (node h args) e height)
         → (IsRedexBy system e (plug found.inner (node h args)) → ⊥)
         → AllAround (HasNoDemandedRedex system) frames (node h args) }
+{}
+
+/// Each item set leads on by every head, and by a skip; and it wants a read, a skip or nothing.
+pub fn sets_lead_on<H>()
+    ensures read { (system : System H) → IsWellFormedSystem system → (items : ItemSet) (h : H)
+        → (next : ItemSet) × IsRead system.in_class (left_sides system) items h next }
+    ensures skip { (system : System H) → IsWellFormedSystem system → (items : ItemSet)
+        → (next : ItemSet) × IsSkip (left_sides system) items next }
+    ensures wants { (system : System H) → IsWellFormedSystem system → (items : ItemSet)
+        → WantsRead (left_sides system) items
+        ⊎ (WantsSkip (left_sides system) items ⊎ WantsNothing (left_sides system) items) }
 {}
 
 /// Where what stands before and behind a way develops, the reading comes with the same items to the node
@@ -223,6 +235,18 @@ pub fn machine_makes_graph_run<H>()
         → (n : ℕ) (now : List (Numbered H)) (v : Numbered H)
         → MachineRun system trees (arriving [] t) n now (ended v) → (slice_get now root ≡ Some v)
         × IsNormal system (plain v) }
+{}
+
+/// The machine is never stuck: at each place that it reaches it has ended, or a turn leads on, or it makes
+/// one replacement more.
+pub fn machine_goes_further<H>()
+    ensures { (system : System H) → IsLawful system → HaveConstantValues system → (arity : H → ℕ)
+        → HasFixedArities system arity → RightsKeep system arity → (root : ℕ) (trees : List (Numbered H))
+        (t : Numbered H) → AreShared trees → KeepAll arity trees → slice_get trees root ≡ Some t → (n : ℕ)
+        (now : List (Numbered H)) (place : Place H) → MachineRun system trees (arriving [] t) n now place
+        → ((v : Numbered H) × (place ≡ ended v)) ⊎ (((next : Place H) × Turn system place next)
+        ⊎ ((after : List (Numbered H)) × (next : Place H)
+        × MachineRun system trees (arriving [] t) (suc n) after next)) }
 {}
 
 /// Where the machine ends, the root's tree is the only normal form of the term, and no list of replacements

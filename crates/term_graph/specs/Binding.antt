@@ -19,8 +19,8 @@ met_node [] x = 0
 met_node (m ∷ ms) x = cond (m.variable == x) m.node (met_node ms x)
 
 -- the variable's node has the variable's part, and ranks below the node at which the left side stands
-pub record IsBound (args : List ℕ) (nodes : List Content) (n : ℕ) (σ : Substitution (heads.Head
-    × ℕ)) (met : List Met) (x : ℕ) : Type 0 where
+pub record IsBound (args : List ℕ) (nodes : List Content) (n : ℕ) (σ : Substitution (heads.Head × ℕ))
+    (met : List Met) (x : ℕ) : Type 0 where
   pub there : met_node met x < length nodes
   pub part : node_tree args nodes (met_node met x) ≡ σ x
   pub below : (rank : ℕ → ℕ) → IsRanked (head.Symbol 0) (shapes_of args nodes) rank

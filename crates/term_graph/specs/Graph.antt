@@ -45,6 +45,8 @@ pub record IsNumberedArgument (g : Graph) (n i m : ℕ) : Type 0 where
 -- a store is stored as its fields
 abbrev pub graph_code : Coded Head → Coded Graph
 graph_code c =
-    code_by (List (Numbered Head)
-    × (List Bool
-    × ℕ)) (coded× (coded_list (tree_code (coded× c coded_ℕ))) (coded× (coded_list coded_bool) coded_ℕ)) (λ g. (g.trees, (g.marks, g.spare))) (λ p. record { trees = p.0; marks = p.1.0; spare = p.1.1 }) (λ _. refl)
+    code_by (List (Numbered Head) × (List Bool × ℕ))
+    (coded× (coded_list (tree_code (coded× c coded_ℕ))) (coded× (coded_list coded_bool) coded_ℕ))
+    (λ g. (g.trees, (g.marks, g.spare)))
+    (λ p. record { trees = p.0; marks = p.1.0; spare = p.1.1 })
+    (λ _. refl)

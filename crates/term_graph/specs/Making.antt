@@ -13,8 +13,8 @@ use Rattle.term_graph.specs.Contents.{shape_of, IsWithin}
 
 -- the new nodes and their arguments came behind the others, and the root's content, which is not yet stored,
 -- is this one
-pub record AreBuilt (met : ℕ
-    → ℕ) (right : Tree (PatternCell heads.Head)) (args args' : List ℕ) (nodes nodes' : List Content) (root : Content) : Type 0 where
+pub record AreBuilt (met : ℕ → ℕ) (right : Tree (PatternCell heads.Head)) (args args' : List ℕ)
+    (nodes nodes' : List Content) (root : Content) : Type 0 where
   pub extra : List ℕ
   pub args_are : args' ≡ args ++ extra
   pub few : length extra ≤ size right

@@ -47,8 +47,8 @@ module _ {H : Type 0} (default : H) where
   -- the ranks, which are below the number of nodes, fall along each reference
   pub record IsRanked (shapes : List (Shape H)) (rank : ℕ → ℕ) : Type 0 where
     pub few : (n : ℕ) → n < length shapes → rank n < length shapes
-    pub falls : (n : ℕ) → n < length shapes → AllByRecursion (λ m. (m < length shapes)
-        × (rank m < rank n)) (references (shape_at shapes n))
+    pub falls : (n : ℕ) → n < length shapes
+        → AllByRecursion (λ m. (m < length shapes) × (rank m < rank n)) (references (shape_at shapes n))
 
   -- no way along references leads back to where it began: the nodes have ranks
   abbrev pub IsAcyclic : List (Shape H) → Type 0

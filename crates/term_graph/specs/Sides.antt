@@ -10,7 +10,8 @@ use Rattle.eq_base.specs.declared.rules.Equation.{Equation}
 use Rattle.term_graph.specs.Graph.{Graph, term_at, IsFollowed}
 
 -- the equation with this number has these sides, both patterns
-pub record HasSides (rules : RuleList) (number : ℕ) (left right : Tree (PatternCell heads.Head)) : Type 0 where
+pub record HasSides (rules : RuleList) (number : ℕ)
+    (left right : Tree (PatternCell heads.Head)) : Type 0 where
   pub equation : Equation
   pub listed : slice_get rules.equations number ≡ Some equation
   pub left_is : equation.left ≡ left

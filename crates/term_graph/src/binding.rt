@@ -53,9 +53,11 @@ pub fn bind(
 fn push_arguments(nodes: &[Content], args: &[usize], content: Content, pending: &mut Vec<usize>)
     requires chained { IsChained nodes.now }
     requires within { IsWithin (length args.now) content }
-    requires there { AllByRecursion (λ m. m < length nodes.now) (take (arity_in content) (drop (first_in content) args.now)) }
+    requires there { AllByRecursion (λ m. m < length nodes.now)
+        (take (arity_in content) (drop (first_in content) args.now)) }
     requires room { vec_len pending.old + arity_in content ≤ vec_capacity pending.old }
-    ensures pushed { ArePushed nodes.now (take (arity_in content) (drop (first_in content) args.now)) pending.old.items pending.new.items }
+    ensures pushed { ArePushed nodes.now (take (arity_in content) (drop (first_in content) args.now))
+        pending.old.items pending.new.items }
     ensures capacity { vec_capacity pending.new ≡ vec_capacity pending.old }
 {
     let first = content.first();

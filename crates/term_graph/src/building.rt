@@ -22,7 +22,8 @@ pub fn build(
     requires nodes { vec_len nodes.old + size right.now ≤ vec_capacity nodes.old }
     requires args { vec_len args.old + size right.now ≤ vec_capacity args.old }
     requires pending { size right.now ≤ vec_capacity pending.old }
-    ensures built { AreBuilt (met_node met.now) right.now args.old.items args.new.items nodes.old.items nodes.new.items result }
+    ensures built { AreBuilt (met_node met.now) right.now args.old.items args.new.items
+        nodes.old.items nodes.new.items result }
     ensures nodes { vec_capacity nodes.new ≡ vec_capacity nodes.old }
     ensures args { vec_capacity args.new ≡ vec_capacity args.old }
     ensures pending { vec_capacity pending.new ≡ vec_capacity pending.old }
@@ -55,7 +56,8 @@ fn add_places(nodes: &mut Vec<Content>, right: &Pattern)
     requires { vec_len nodes.old + size right.now ≤ vec_capacity nodes.old }
     ensures places { take (length nodes.old.items) nodes.new.items ≡ nodes.old.items }
     ensures count { length nodes.new.items ≡ length nodes.old.items + all_head_count (args_of right.now) }
-    ensures upto { length nodes.new.items ≡ length nodes.old.items + heads_upto right.now (size right.now - 1) }
+    ensures upto { length nodes.new.items
+        ≡ length nodes.old.items + heads_upto right.now (size right.now - 1) }
     ensures capacity { vec_capacity nodes.new ≡ vec_capacity nodes.old }
 {
     for i in 1..right.len() {

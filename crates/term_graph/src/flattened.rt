@@ -47,7 +47,8 @@ impl Store {
 fn push_numbers(args: &mut Vec<usize>, flat: &Flat, at: usize) -> Result<(), NoMemory>
     requires there { at < size flat.now }
     requires fits { at + 1 < 2 ^ 64 }
-    ensures { OnOk result (args.new.items ≡ args.old.items ++ root_numbers (at + 1) (args_of (nth_subtree flat.now at))) }
+    ensures { OnOk result (args.new.items
+        ≡ args.old.items ++ root_numbers (at + 1) (args_of (nth_subtree flat.now at))) }
 {
     let mut child = at + 1;
     for _ in 0..flat.arity(at) {

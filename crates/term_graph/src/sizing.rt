@@ -90,7 +90,8 @@ fn reference(args: &[usize], content: Content, k: usize) -> usize
     }
 }
 
-// Which of the nodes to which a node leads is the first whose size is unknown, where those before one are known.
+// Which of the nodes to which a node leads is the first whose size is unknown, where those before one are
+// known.
 fn next_unknown(args: &[usize], content: Content, sizes: &[u64], from: usize) -> Option<usize>
     requires within { IsWithin (length args.now) content }
     requires there { AllByRecursion (λ m. m < length sizes.now) (references (shape_of args.now content)) }

@@ -34,9 +34,16 @@ impl Model for Store {
 
     ghost coded = { graph_code head_type.the_row.coded };
 
-    ghost view = { λ s. record { trees = trees_of s.args.items s.nodes.items; marks = s.marks.items; spare = min (min (vec_capacity s.nodes - vec_len s.nodes) (vec_capacity s.args - vec_len s.args)) (min (vec_capacity s.marks - vec_len s.marks) (vec_capacity s.pending)) } };
+    ghost view = { λ s. record {
+      trees = trees_of s.args.items s.nodes.items;
+      marks = s.marks.items;
+      spare = min
+          (min (vec_capacity s.nodes - vec_len s.nodes) (vec_capacity s.args - vec_len s.args))
+          (min (vec_capacity s.marks - vec_len s.marks) (vec_capacity s.pending));
+    } };
 
-    ghost invariant = { λ s. IsStore s.args.items s.nodes.items s.marks.items (vec_capacity s.pending) (vec_capacity s.met) };
+    ghost invariant = { λ s. IsStore s.args.items s.nodes.items s.marks.items
+        (vec_capacity s.pending) (vec_capacity s.met) };
 }
 
 /// What a replacement made.

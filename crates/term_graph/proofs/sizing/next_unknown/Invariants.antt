@@ -1,4 +1,4 @@
-use Rattle.std.proofs.Common.{◌≡◌, take}
+use Rattle.std.proofs.Common.{take}
 use Rattle.term_graph.specs.Shapes.{references}
 use Rattle.term_graph.specs.Contents.{shape_of}
 use Rattle.term_graph.specs.Sizes.{AreKnown}
