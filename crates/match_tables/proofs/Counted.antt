@@ -1,8 +1,8 @@
 -- How many item sets there can be.
-use Rattle.std.proofs.Common.{◌≡◌, ◌≢◌, ℕ, suc, ◌+◌, ◌<◌, ◌≤◌, List, [], ◌∷◌, ◌++◌, length, refl, ap, arith}
+use Rattle.std.proofs.Common.{◌≢◌, ◌+◌, ◌≤◌, List, [], ◌∷◌, length, refl, arith}
 use Rattle.std.specs.List.{AllByRecursion}
 use Rattle.eq_base.specs.RuleList.{RuleList}
-use Rattle.match_laws.specs.Items.{Item, ItemSet}
+use Rattle.match_laws.specs.Items.{ItemSet}
 use Rattle.match_laws.specs.Reachable.{total_items, AreDistinct}
 use Rattle.match_tables.specs.Searching.{AreFound}
 use Rattle.match_tables.proofs.Holding.{distinct-list}

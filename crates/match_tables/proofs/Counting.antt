@@ -1,14 +1,10 @@
 -- Lists of distinct item sets: how many items they hold together, and what the members of a set tell of it.
-use Rattle.std.proofs.Common.{◌≡◌, ◌≢◌, ◌⊎◌, zero, suc, ◌+◌, ◌≤◌, List, [], ◌∷◌, ◌++◌, length, refl, sym, ◌∙◌, ap, subst, arith, inl, inr, ⊎_elim}
+use Rattle.std.proofs.Common.{◌≡◌, ◌≢◌, ◌⊎◌, zero, suc, ◌+◌, ◌≤◌, List, [], ◌∷◌, ◌++◌, refl, sym, ◌∙◌, ap, subst, arith, inl, inr, ⊎_elim}
 use Rattle.std.specs.Prelude.{Contains}
-use Rattle.std.specs.List.{AllByRecursion}
-use Rattle.std.proofs.lemmas.Option.{none-some}
 use Rattle.std.proofs.lemmas.List.Elements.{Contains-append_left, Contains-append_right, Contains-append_cases}
 use Rattle.eq_base.proofs.Lists.{all_contained}
 use Rattle.match_laws.specs.Items.{Item, ItemSet, Precedes, IsOrdered}
 use Rattle.match_laws.specs.Reachable.{total_items, AreDistinct}
-use Rattle.match_tables.specs.Sets as indices
-use Rattle.match_tables.proofs.Places.{contains_from_place}
 
 -- ---- an element of a list
 

@@ -1,6 +1,6 @@
 -- What stays right while more item sets are found.
-use Rattle.std.proofs.Common.{length-append, ◌≡◌, ◌⊎◌, ℕ, ◌+◌, ◌<◌, ◌≤◌, List, [], ◌∷◌, ◌++◌, take, length, get_or, slice_get, Some, refl, sym, ◌∙◌, ap, subst, arith, inl, inr, ⊎_elim}
-use Rattle.std.proofs.lemmas.Option.{slice_get_within, slice_get-get_or}
+use Rattle.std.proofs.Common.{length-append, ◌≡◌, ℕ, ◌+◌, ◌<◌, ◌≤◌, List, [], ◌∷◌, ◌++◌, take, length, get_or, slice_get, Some, refl, sym, subst, arith, ⊎_elim}
+use Rattle.std.proofs.lemmas.Option.{slice_get_within}
 use Rattle.std.proofs.lemmas.List.{take_more, take_all}
 use Rattle.eq_base.specs.RuleList.{RuleList}
 use Rattle.eq_base.specs.declared.head.Head.{Head}
@@ -11,7 +11,7 @@ use Rattle.match_tables.specs.Steps.{IsMoved, LeadsTo}
 use Rattle.match_tables.specs.Searching.{Extends}
 use Rattle.match_tables.specs.Answering.{SkipLeads}
 use Rattle.match_tables.specs.Rows.{IsRight, AreRight, IsRow}
-use Rattle.match_tables.specs.Tabled.{AreRows, AreRoots}
+use Rattle.match_tables.specs.Tabled.{AreRoots}
 use Rattle.match_tables.specs.declared.step.Step.{Step}
 use Rattle.match_tables.specs.declared.step.Step.TheVariants.{Read, Skip}
 use Rattle.match_tables.specs.declared.search.Move.{Move}

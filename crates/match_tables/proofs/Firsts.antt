@@ -3,7 +3,7 @@ use Rattle.std.proofs.Common.{◌≡◌, ◌⊎◌, ℕ, ◌+◌, ◌<◌, ◌�
 use Rattle.std.proofs.lemmas.Bool.{cases_lt}
 use Rattle.std.proofs.lemmas.Option.{slice_get_within, slice_get-get_or}
 use Rattle.std.proofs.lemmas.List.{take_more, take_all}
-use Rattle.eq_base.specs.Tree.{Tree, size, nth_subtree, head_of}
+use Rattle.eq_base.specs.Tree.{size, nth_subtree, head_of}
 use Rattle.eq_base.specs.Pattern.{PatternCell, IsTested}
 use Rattle.eq_base.specs.Cells.{kind_of, root_cell}
 use Rattle.eq_base.specs.declared.head.Head.{Head}
@@ -105,7 +105,7 @@ module _ (rules : RuleList) (ends : List End) (are : AreEnds rules ends) where
         (subst (λ cs. Moves cs step (head_of (nth_subtree equation.left c))) theirs (subst (Moves classes step) (ap kind_of is ∙ kind_of-root_cell (nth_subtree equation.left c)) m))
 
     pub completed-moves : (classes : List (List Head)) → classes ≡ rules.classes → (code : cells.Cell) → code ≡ root_cell (nth_subtree equation.left c) → CompletesAt rules step e c → Moves classes step (kind_of code)
-    completed-moves classes theirs code is x = subst (λ cs. Moves cs step (kind_of code)) (sym theirs) ( subst (Moves rules.classes step) (sym (read-cell rules e equation listed c x.cell code is x.is_cell)) x.moves)
+    completed-moves classes theirs code is x = subst (λ cs. Moves cs step (kind_of code)) (sym theirs) (subst (Moves rules.classes step) (sym (read-cell rules e equation listed c x.cell code is x.is_cell)) x.moves)
 
   pub completed-end : (step : Step) (e c : ℕ) (d : End) → e < length rules.equations → CompletesAt rules step e c → (get_or ends e d).cell ≡ c
   completed-end step e c d lt x = sym (end-cell rules step e c (get_or ends e d) (end-at e d lt) x)

@@ -1,5 +1,5 @@
 -- Heads of each symbol class that a list does not have, and the steps that lead to reachable item sets.
-use Rattle.std.proofs.Common.{◌≡◌, ℕ, zero, suc, ◌+◌, ◌<◌, ◌≤◌, ℤ, pos, negsuc, List, [], ◌∷◌, length, slice_get, Some, refl, sym, ap, subst, arith}
+use Rattle.std.proofs.Common.{◌≡◌, ℕ, zero, suc, ◌+◌, ◌<◌, ℤ, pos, negsuc, List, [], ◌∷◌, slice_get, Some, refl, ap, subst, arith}
 use Rattle.std.specs.Prelude.{Contains}
 use Rattle.eq_base.specs.RuleList.{RuleList}
 use Rattle.eq_base.specs.declared.head.Head.{Head}

@@ -1,12 +1,9 @@
 -- How many items the item sets of a search hold.
 use Rattle.std.proofs.Common.{Result, Err, IfErr, ◌≡◌, ◌≢◌, ℕ, suc, Some, refl, ◌+◌, ◌<◌, ◌≤◌, List, [], ◌∷◌, ◌++◌, length, slice_get, sym, ◌∙◌, ap, subst, arith, length-append, ⊎_elim}
 use Rattle.eq_base.specs.RuleList.{RuleList}
-use Rattle.eq_base.specs.Pattern.{PatternCell}
-use Rattle.eq_base.specs.declared.head.Head.{Head}
 use Rattle.match_laws.specs.Items.{ItemSet}
 use Rattle.match_laws.specs.Reachable.{total_items}
 use Rattle.match_laws.specs.Reachable as reachable
-use Rattle.match_laws.specs.Demand.{left_sides_of}
 use Rattle.match_tables.specs.Sets.{Interns, AreDistinct}
 use Rattle.match_tables.specs.Steps.{LeadsTo}
 use Rattle.match_tables.specs.Moving.{AreItemsOf}
@@ -17,7 +14,6 @@ use Rattle.match_tables.specs.declared.step.Step.{Step}
 use Rattle.match_tables.proofs.Places.{kept, old_or_last, place_from_contains}
 use Rattle.match_tables.proofs.Moved.{each_contained}
 use Rattle.std.specs.List.{AllByRecursion}
-use Rattle.eq_base.specs.Meeting.{in_class_of}
 
 total-push : (sets : List ItemSet) (items : ItemSet) → total_items (sets ++ items ∷ []) ≡ total_items sets + length items
 total-push [] items = omega arith

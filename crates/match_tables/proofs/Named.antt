@@ -1,6 +1,6 @@
 -- Heads that the cells of items name, and the other heads of each symbol class.
-use Rattle.std.proofs.Common.{◌≡◌, ◌⊎◌, ℕ, ◌+◌, ◌<◌, ◌≤◌, Bool, true, false, ◌&&◌, List, [], ◌∷◌, length, slice_get, Option, Some, None, refl, sym, ◌∙◌, ap, subst, arith, inl, inr, ⊎_elim}
-use Rattle.std.specs.Prelude.{◌↔◌, Contains, IsTrue}
+use Rattle.std.proofs.Common.{◌≡◌, ◌⊎◌, ℕ, ◌<◌, Bool, true, false, ◌&&◌, List, length, slice_get, Option, Some, None, refl, sym, ◌∙◌, ap, subst, arith, inl, inr, ⊎_elim}
+use Rattle.std.specs.Prelude.{Contains, IsTrue}
 use Rattle.std.proofs.lemmas.Bool.{cases_lt, eqb-true, eq-eqb}
 use Rattle.std.proofs.lemmas.Option.{slice_get_within}
 use Rattle.eq_base.specs.Tree.{Tree, node, head_of, nth_subtree}
@@ -9,12 +9,12 @@ use Rattle.eq_base.specs.Meeting.{in_symbol_class, same_head, in_class_of}
 use Rattle.eq_base.specs.RuleList.{RuleList}
 use Rattle.eq_base.specs.declared.head.Head.{Head}
 use Rattle.eq_base.specs.declared.head.Head.TheVariants.{Symbol, Numeral, Atom, Text}
-use Rattle.eq_base.proofs.ClassMembers.{same_head_decides, symbol_class, listed_class}
+use Rattle.eq_base.proofs.ClassMembers.{same_head_decides, symbol_class}
 use Rattle.regularity.specs.WellFormed.{AreWellFormed}
-use Rattle.match_laws.specs.Items.{ItemSet, IsCell, IsMet}
+use Rattle.match_laws.specs.Items.{ItemSet, IsCell}
 use Rattle.match_laws.specs.Demand.{left_sides_of}
-use Rattle.match_tables.specs.Steps.{Moves, IsMoved, LeadsTo}
-use Rattle.match_tables.specs.Completing.{IsCompletedBy, CompletesAt, IsAnswered}
+use Rattle.match_tables.specs.Steps.{Moves, LeadsTo}
+use Rattle.match_tables.specs.Completing.{IsCompletedBy, IsAnswered}
 use Rattle.match_tables.specs.Rows.{Names, HaveNamed, MeetsNone, IsRight, IsRow}
 use Rattle.match_tables.specs.Tabled.{IsOnHead}
 use Rattle.match_tables.specs.declared.row.State.{State}
@@ -76,11 +76,13 @@ module _ (classes : List (List Head)) where
   symbol-named : (s : ℕ) (cell : PatternCell Head) → IsTested cell → Meets (in_class_of classes) cell (Symbol s) → Names classes cell (Symbol s)
   symbol-named s (fixed g) t m = m
   symbol-named s (variable y) t m = absurd t
-  symbol-named s (restricted y k) t m =
-      (⊎_elim
-      (λ lt. inl (truth k s (sym (as_symbols k (Symbol s) lt) ∙ m)))
-      (λ le. inr le)
-      (cases_lt k 4), m)
+  symbol-named s (restricted y k) t m = (
+    ⊎_elim
+        (λ lt. inl (truth k s (sym (as_symbols k (Symbol s) lt) ∙ m)))
+        (λ le. inr le)
+        (cases_lt k 4),
+    m,
+  )
     where
       left : (a b : Bool) → (a && b) ≡ true → a ≡ true
       left true b e = refl

@@ -1,5 +1,5 @@
 -- The items of a set, one after another: what they want, and what they name.
-use Rattle.std.proofs.Common.{◌≡◌, ◌⊎◌, ℕ, ◌+◌, ◌<◌, ◌≤◌, List, [], ◌∷◌, ◌++◌, take, length, get_or, slice_get, Some, refl, sym, ◌∙◌, ap, subst, arith, inl, inr, ⊎_elim}
+use Rattle.std.proofs.Common.{◌≡◌, ℕ, ◌+◌, ◌<◌, ◌≤◌, List, [], ◌∷◌, take, length, get_or, slice_get, Some, refl, sym, ◌∙◌, ap, subst, arith, inr, ⊎_elim}
 use Rattle.std.specs.Prelude.{Contains}
 use Rattle.std.proofs.lemmas.List.{take_more, take_all}
 use Rattle.eq_base.specs.Tree.{head_of, nth_subtree}
@@ -12,7 +12,7 @@ use Rattle.eq_base.specs.declared.rules.Equation.{Equation}
 use Rattle.match_laws.specs.Items.{Item, ItemSet, IsCell, WantsRead, WantsSkip}
 use Rattle.match_laws.specs.Demand.{left_sides_of}
 use Rattle.match_tables.specs.Moving.{AreItemsOf}
-use Rattle.match_tables.specs.Rows.{HasNamed, HaveNamed, HasAll}
+use Rattle.match_tables.specs.Rows.{HasNamed, HasAll}
 use Rattle.match_tables.proofs.Moved.{contains-push, get-contained, read-cell, cell-of, place-of, place-there, kind_of-root_cell}
 use Rattle.regularity.specs.Looking.{IsPlaceOf}
 use Rattle.std.proofs.lemmas.Option.{slice_get_within}

@@ -15,8 +15,6 @@ use Rattle.match_tables.specs.declared.step.Step as steps
 use Rattle.match_tables.specs.declared.step.Step.TheVariants.{Read}
 use Rattle.match_tables.specs.declared.search.Move.{Move}
 use Rattle.match_tables.specs.declared.completed.End.{End}
-use Rattle.eq_base.specs.Tree.{Tree}
-use Rattle.eq_base.specs.Pattern.{PatternCell}
 use Rattle.match_tables.proofs.Moved.{element-at}
 use Rattle.match_tables.proofs.Firsts.{end-cell}
 

@@ -1,9 +1,9 @@
 -- Where the symbols lead from the roots alone, and the states as they are made.
-use Rattle.std.proofs.Common.{length-append, ◌≡◌, ◌⊎◌, ℕ, ◌+◌, ◌-◌, ◌<◌, ◌≤◌, List, [], ◌∷◌, ◌++◌, length, slice_get, Some, refl, sym, ◌∙◌, ap, subst, arith, inl, inr, ⊎_elim}
+use Rattle.std.proofs.Common.{◌≡◌, ℕ, ◌+◌, ◌<◌, ◌≤◌, List, [], ◌∷◌, ◌++◌, length, slice_get, Some, sym, ◌∙◌, subst, arith, ⊎_elim}
 use Rattle.std.proofs.lemmas.Bool.{cases_lt}
 use Rattle.std.proofs.lemmas.Option.{slice_get_within}
 use Rattle.eq_base.specs.Tree.{nth_subtree}
-use Rattle.eq_base.specs.Pattern.{PatternCell, fixed, Meets}
+use Rattle.eq_base.specs.Pattern.{PatternCell, Meets}
 use Rattle.eq_base.specs.Cells.{kind_of, root_cell}
 use Rattle.eq_base.specs.Meeting.{in_class_of}
 use Rattle.eq_base.specs.RuleList.{RuleList}
@@ -16,12 +16,12 @@ use Rattle.match_laws.specs.Items.{ItemSet, IsCell, IsMet}
 use Rattle.match_laws.specs.Demand.{left_sides_of}
 use Rattle.match_tables.specs.Searching.{Extends}
 use Rattle.match_tables.specs.Rows.{IsRight, IsRow}
-use Rattle.match_tables.specs.Tabled.{AreRows, AreRoots, IsBelow, AreRootsBelow}
+use Rattle.match_tables.specs.Tabled.{AreRows, IsBelow, AreRootsBelow}
 use Rattle.match_tables.specs.declared.step.Step.TheVariants.{Read}
 use Rattle.match_tables.specs.declared.search.Move.{Move}
 use Rattle.match_tables.specs.declared.row.State.{State}
 use Rattle.match_tables.proofs.Places.{old_or_last}
-use Rattle.match_tables.proofs.Moved.{element-at, read-cell, length-left_sides_of, root-place, place-there}
+use Rattle.match_tables.proofs.Moved.{element-at, read-cell, length-left_sides_of}
 use Rattle.match_tables.proofs.Named.{root-symbol}
 use Rattle.match_tables.proofs.Extending.{extends-right, extends-row}
 use Rattle.match_tables.proofs.Fresh.{same-set}

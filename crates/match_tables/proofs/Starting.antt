@@ -1,10 +1,9 @@
 -- The item set of the roots alone, with which the search begins.
-use Rattle.std.proofs.Common.{◌≡◌, ℕ, zero, suc, ◌<◌, ◌≤◌, List, [], ◌∷◌, length, slice_get, Some, None, refl, sym, ◌∙◌, ap, subst, arith}
-use Rattle.std.specs.Prelude.{Contains}
+use Rattle.std.proofs.Common.{◌≡◌, ℕ, zero, suc, List, [], ◌∷◌, length, slice_get, Some, refl, sym, ◌∙◌, ap, subst, arith}
 use Rattle.std.proofs.lemmas.Option.{none-some}
 use Rattle.eq_base.specs.RuleList.{RuleList}
 use Rattle.match_laws.specs.Items.{ItemSet}
-use Rattle.match_laws.specs.Reachable.{total_items, start}
+use Rattle.match_laws.specs.Reachable.{start}
 use Rattle.match_tables.specs.Moving.{AreItemsOf}
 use Rattle.match_tables.specs.Searching.{Extends, IsFindable, AreFound}
 use Rattle.match_tables.specs.Answering.{StandsFor}

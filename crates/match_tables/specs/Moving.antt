@@ -1,5 +1,5 @@
 -- Item sets on the way from one to the next.
-use Rattle.std.specs.Prelude.{◌≡◌, ◌↔◌, ℕ, suc, ◌<◌, List, Contains}
+use Rattle.std.specs.Prelude.{◌≡◌, ◌↔◌, ℕ, suc, ◌<◌, Contains}
 use Rattle.eq_base.specs.RuleList.{RuleList}
 use Rattle.eq_base.specs.Pattern.{PatternCell}
 use Rattle.eq_base.specs.declared.head.Head.{Head}

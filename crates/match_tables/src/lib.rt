@@ -12,4 +12,3 @@ mod tables;
 
 pub use advance::{Advance, Want};
 pub use tables::Tables;
-
