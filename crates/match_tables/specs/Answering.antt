@@ -30,10 +30,11 @@ module _ (rules : RuleList) where
 
     -- no left side is completed by a read of the head
     abbrev pub CompletesNone : ItemSet → Head → Type 0
-    CompletesNone items head = (e c : ℕ) → IsCompleted (in_class_of rules.classes) (left_sides_of rules) items head e c → ⊥
+    CompletesNone items head = (e c : ℕ)
+        → IsCompleted (in_class_of rules.classes) (left_sides_of rules) items head e c → ⊥
 
-    -- what a read of the head answers: the next state, and the first equation whose left side is completed, if
-    -- there is one
+    -- what a read of the head answers: the next state, and the first equation whose left side is completed,
+    -- if there is one
     abbrev pub IsAdvance : ItemSet → Head → Advance → Type 0
     IsAdvance items head (Go next) = ReadLeads items head next × CompletesNone items head
     IsAdvance items head (Redex equation height next) = ReadLeads items head next

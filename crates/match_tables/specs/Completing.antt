@@ -38,7 +38,8 @@ module _ (rules : RuleList) where
   -- the first equation whose left side the step completes, if there is one
   abbrev pub IsAnswered : ItemSet → Step → Option ℕ → Type 0
   IsAnswered items step None = (e c : ℕ) → IsCompletedBy items step e c → ⊥
-  IsAnswered items step (Some e) = ((c : ℕ) × IsCompletedBy items step e c) × ((k c : ℕ) → k < e → IsCompletedBy items step k c → ⊥)
+  IsAnswered items step (Some e) = ((c : ℕ) × IsCompletedBy items step e c)
+      × ((k c : ℕ) → k < e → IsCompletedBy items step k c → ⊥)
 
 -- the equation comes before the one that is found, if there is one
 abbrev pub IsLess : ℕ → Option ℕ → Type 0

@@ -19,7 +19,8 @@ use Rattle.match_tables.specs.declared.row.State.{State}
 abbrev pub Names : List (List Head) → PatternCell Head → Head → Type 0
 Names classes (fixed g) h = g ≡ h
 Names classes (variable x) h = ⊥
-Names classes (restricted x class) h = ((class ≡ class_number TruthValues) ⊎ (4 ≤ class)) × IsTrue (in_class_of classes class h)
+Names classes (restricted x class) h = ((class ≡ class_number TruthValues) ⊎ (4 ≤ class))
+    × IsTrue (in_class_of classes class h)
 
 -- each head that the cell names stands in the list
 abbrev pub HasNamed : List (List Head) → PatternCell Head → List Head → Type 0
@@ -46,7 +47,8 @@ module _ (rules : RuleList) where
 
   -- no item below the roots is met by the head
   abbrev pub MeetsNone : ItemSet → Head → Type 0
-  MeetsNone items head = (e c : ℕ) → 0 < c → IsMet (in_class_of rules.classes) (left_sides_of rules) items head e c → ⊥
+  MeetsNone items head = (e c : ℕ) → 0 < c
+      → IsMet (in_class_of rules.classes) (left_sides_of rules) items head e c → ⊥
 
   module _ (sets : List ItemSet) where
     -- the step leads from the item set to the move's, and completes the equation that it names
@@ -59,10 +61,11 @@ module _ (rules : RuleList) where
     -- each head has its move
     pub record AreRight (items : ItemSet) (heads : List Head) (moves : List Move) : Type 0 where
       pub as_many : length moves ≡ length heads
-      pub each : (i : ℕ) (head : Head) (to : Move) → slice_get heads i ≡ Some head → slice_get moves i ≡ Some to
-          → IsRight items (Read head) to
+      pub each : (i : ℕ) (head : Head) (to : Move) → slice_get heads i ≡ Some head
+          → slice_get moves i ≡ Some to → IsRight items (Read head) to
 
-    -- the row has a move for each head that the cell of an item names, and one for the other heads of each class
+    -- the row has a move for each head that the cell of an item names, and one for the other heads of each
+    -- class
     pub record IsRow (items : ItemSet) (row : State) : Type 0 where
       pub want : IsWanted rules items row.want
       pub skip : SkipLeads rules sets items row.skip

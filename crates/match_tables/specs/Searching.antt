@@ -14,7 +14,8 @@ use Rattle.match_tables.specs.declared.search.Stop.TheVariants.{Past, NoMemory}
 
 -- each item set keeps its number
 abbrev pub Extends : List ItemSet → List ItemSet → Type 0
-Extends old new = (number : ℕ) (items : ItemSet) → slice_get old number ≡ Some items → slice_get new number ≡ Some items
+Extends old new = (number : ℕ) (items : ItemSet) → slice_get old number ≡ Some items
+    → slice_get new number ≡ Some items
 
 -- the item set went into the list, or the list has it already, and its number is this one; together the sets
 -- hold few enough items
@@ -41,7 +42,8 @@ module _ (rules : RuleList) where
 
   -- where the set with this number is reachable, those to which the step leads from it are
   abbrev pub KeepsReachable : List ItemSet → ℕ → Step → Type 0
-  KeepsReachable sets state step = (items next : ItemSet) → slice_get sets state ≡ Some items → IsFindable items → LeadsTo rules items step next → IsFindable next
+  KeepsReachable sets state step = (items next : ItemSet) → slice_get sets state ≡ Some items
+      → IsFindable items → LeadsTo rules items step next → IsFindable next
 
   -- the search stops: the reachable sets hold too many items together; or there was no memory
   abbrev pub IsStopped : Stop → Type 0

@@ -9,8 +9,8 @@ use Rattle.match_laws.specs.Demand.{left_sides_of}
 use Rattle.match_tables.specs.declared.step.Step.{Step}
 use Rattle.match_tables.specs.declared.step.Step.TheVariants.{Read, Other, Skip}
 
--- the step moves an item at this cell on; a head of a symbol class that is named nowhere meets the cells of its
--- class alone
+-- the step moves an item at this cell on; a head of a symbol class that is named nowhere meets the cells of
+-- its class alone
 abbrev pub Moves : List (List Head) → Step → PatternCell Head → Type 0
 Moves classes (Read h) c = IsTested c × Meets (in_class_of classes) c h
 Moves classes (Other class) c = (x : ℕ) × (c ≡ restricted x class)

@@ -29,16 +29,20 @@ IsBelow cell end = (symbol : ℕ) → cell ≡ fixed (Symbol symbol) → symbol 
 module _ (rules : RuleList) where
   -- each state has the row of its item set
   pub record AreRows (sets : List ItemSet) (states : List State) : Type 0 where
-    pub each : (state : ℕ) (row : State) (items : ItemSet) → slice_get states state ≡ Some row → StandsFor sets state items → IsRow rules sets items row
+    pub each : (state : ℕ) (row : State) (items : ItemSet) → slice_get states state ≡ Some row
+        → StandsFor sets state items → IsRow rules sets items row
 
   -- where the symbols lead from the roots alone: one past the list stands at no root
   pub record AreRoots (sets : List ItemSet) (roots : List Move) : Type 0 where
-    pub each : (symbol : ℕ) (to : Move) → slice_get roots symbol ≡ Some to → IsRight rules sets [] (Read (Symbol symbol)) to
-    pub past : (symbol : ℕ) → length roots ≤ symbol → (e : ℕ) → IsMet (in_class_of rules.classes) (left_sides_of rules) [] (Symbol symbol) e 0 → ⊥
+    pub each : (symbol : ℕ) (to : Move) → slice_get roots symbol ≡ Some to
+        → IsRight rules sets [] (Read (Symbol symbol)) to
+    pub past : (symbol : ℕ) → length roots ≤ symbol → (e : ℕ)
+        → IsMet (in_class_of rules.classes) (left_sides_of rules) [] (Symbol symbol) e 0 → ⊥
 
   -- the symbol at the root of each left side is below the end
   abbrev pub AreRootsBelow : ℕ → Type 0
-  AreRootsBelow end = (e : ℕ) (cell : PatternCell Head) → IsCell (left_sides_of rules) e 0 cell → IsBelow cell end
+  AreRootsBelow end = (e : ℕ) (cell : PatternCell Head) → IsCell (left_sides_of rules) e 0 cell
+      → IsBelow cell end
 
   -- the tables are those of the equations: each state has the row of its item set, the first one that of the
   -- roots alone, and each item set is reachable
@@ -55,8 +59,12 @@ module _ (rules : RuleList) where
   -- together more than 2^22 items below the roots
   abbrev pub IsBuilt : Option Tables → Type 0
   IsBuilt None = ArePast (in_class_of rules.classes) (left_sides_of rules) 4194304
-  IsBuilt (Some tables) = AreTablesOf tables × (ArePast (in_class_of rules.classes) (left_sides_of rules) 4194304 → ⊥)
+  IsBuilt (Some tables) = AreTablesOf tables
+      × (ArePast (in_class_of rules.classes) (left_sides_of rules) 4194304 → ⊥)
 
   -- where the head of a term leads, if `root` is where a symbol leads that no item below the roots meets
   abbrev pub IsOnHead : List ItemSet → ItemSet → Head → Move → Move → Type 0
-  IsOnHead sets items head root to = (MeetsNone rules items head → (symbol : ℕ) → head ≡ Symbol symbol → IsRight rules sets items (Read head) root) → IsRight rules sets items (Read head) to
+  IsOnHead sets items head root to =
+      (MeetsNone rules items head → (symbol : ℕ) → head ≡ Symbol symbol
+      → IsRight rules sets items (Read head) root)
+      → IsRight rules sets items (Read head) to

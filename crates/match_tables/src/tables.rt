@@ -19,9 +19,9 @@ use std::alloc::Global;
 
 /// Where the heads of terms lead from one item set to the next.
 ///
-/// The row of a state holds the symbols that items below the roots meet; every other symbol leads where it leads from the
-/// roots alone, which is one look-up in a dense table. So a read of a symbol takes a load for the state, one for its row, and one for the
-/// dense table where the row has no entry. Wants and skips take one load.
+/// The row of a state holds the heads that items below the roots name, each with its move, and a move for the
+/// other numerals, atoms and strings. Every other symbol leads where it leads from the roots alone, which is one
+/// look-up in a dense table.
 #[derive(Drop)]
 pub struct Tables {
     sets: ItemSets,
@@ -39,7 +39,8 @@ impl Tables {
     ghost use Rattle.eq_base.specs.declared.head.Head.TheVariants.{Symbol};
     ghost use Rattle.match_tables.specs.declared.step.Step.TheVariants.{Read};
 
-    /// The tables of equations, or none where the reachable item sets hold together more than 2^22 items below the roots.
+    /// The tables of equations, or none where the reachable item sets hold together more than 2^22 items below
+    /// the roots. It stops soon after that many are found.
     pub fn build(alloc: Global, regular: &Regular) -> Result<Option<Tables>, NoMemory>
         ensures { IfOk result (IsBuilt regular.now) }
     {
@@ -57,10 +58,11 @@ impl Tables {
         0
     }
 
-    /// Where a head leads, in time logarithmic in the row's length.
+    /// Where a head leads, in time linear in the length of the state's row.
     pub fn read(&self, state: usize, head: Head) -> Advance
         requires { IsState self.now state }
-        ensures { (rules : RuleList) → AreTablesOf rules self.now → (items : ItemSet) → StandsFor self.now.sets state items → IsAdvance rules self.now.sets items head result }
+        ensures { (rules : RuleList) → AreTablesOf rules self.now → (items : ItemSet)
+            → StandsFor self.now.sets state items → IsAdvance rules self.now.sets items head result }
     {
         let to = self.states[state].on_head(head, self.on_root(head));
         let next = to.next;
@@ -87,7 +89,8 @@ impl Tables {
     /// Where a skip leads.
     pub fn skip(&self, state: usize) -> usize
         requires { IsState self.now state }
-        ensures { (rules : RuleList) → AreTablesOf rules self.now → (items : ItemSet) → StandsFor self.now.sets state items → SkipLeads rules self.now.sets items result }
+        ensures { (rules : RuleList) → AreTablesOf rules self.now → (items : ItemSet)
+            → StandsFor self.now.sets state items → SkipLeads rules self.now.sets items result }
     {
         self.states[state].skip
     }
@@ -95,14 +98,17 @@ impl Tables {
     /// What the state wants.
     pub fn wants(&self, state: usize) -> Want
         requires { IsState self.now state }
-        ensures { (rules : RuleList) → AreTablesOf rules self.now → (items : ItemSet) → StandsFor self.now.sets state items → IsWanted rules items result }
+        ensures { (rules : RuleList) → AreTablesOf rules self.now → (items : ItemSet)
+            → StandsFor self.now.sets state items → IsWanted rules items result }
     {
         self.states[state].want
     }
 
     // Where a head leads that no item below the roots meets.
     fn on_root(&self, head: Head) -> Move
-        ensures { (rules : RuleList) → AreTablesOf rules self.now → (items : ItemSet) → MeetsNone rules items head → (symbol : ℕ) → head ≡ Symbol symbol → IsRight rules self.now.sets items (Read head) result }
+        ensures { (rules : RuleList) → AreTablesOf rules self.now → (items : ItemSet)
+            → MeetsNone rules items head → (symbol : ℕ) → head ≡ Symbol symbol
+            → IsRight rules self.now.sets items (Read head) result }
     {
         let nowhere = Move {
             next: 0,
