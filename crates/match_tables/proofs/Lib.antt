@@ -14,6 +14,8 @@ pub mod Counted
 pub mod Rooted
 pub mod Depths
 pub mod Lasts
+pub mod Same
+pub mod Complete
 pub mod Fronts
 pub mod Meeting
 pub mod Passing
