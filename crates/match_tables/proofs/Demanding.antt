@@ -12,7 +12,7 @@ use Rattle.eq_base.proofs.Positions.{subtree_at-nth_position}
 use Rattle.eq_base.proofs.Replacing.{number-nth_position}
 use Rattle.regularity.specs.Arities.{HasArities}
 use Rattle.regularity.proofs.Faces.{number_before}
-use Rattle.orthogonal_laws.proofs.PositionNumbers.{number_below, nth_subtree-number, number_above}
+use Rattle.eq_base.proofs.Numbers.{number_below, nth_subtree-number, number_above}
 use Rattle.eq_base.proofs.Numbers.{subtree-append}
 use Rattle.orthogonal_laws.proofs.Members.{contains-in, in-contains, in-get, get-in}
 use Rattle.match_tables.specs.Items.{ItemSet, IsCell, IsCompleted, WantsRead}

@@ -53,7 +53,7 @@ module _ (value_of : Op → Tree Head → Option (Tree Head)) (rules : RuleList)
 
   pub regular_arities : (regular : AreRegular rules) → HasFixedArities (system_of value_of rules) regular.well_formed.arity
   regular_arities regular = record {
-    lefts = λ rule c. let x = map-in rule_of equations rule (contains-in c) in
+    lefts = λ rule c. let x = map-in rule_of rules.equations rule (contains-in c) in
         subst (λ (z : Rule Head). HasArities regular.well_formed.arity z.left) x.2 (of_equation x.0 (in-contains x.1));
     constants = regular.well_formed.constants;
   }

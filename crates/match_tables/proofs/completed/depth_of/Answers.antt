@@ -1,4 +1,4 @@
-use Rattle.std.proofs.Common.{◌+◌, arith, sym, ap, ◌∙◌}
+use Rattle.std.proofs.Common.{arith}
 use Rattle.match_tables.proofs.Depths.{counted-step, counted-same, counted-all}
 use Rattle.match_tables.proofs.completed.depth_of.Goals as goal
 use Rattle.match_tables.proofs.completed.depth_of.Goals.{then-cell-end_of, else-cell-end_of}

@@ -1,5 +1,4 @@
 use Rattle.std.proofs.Common.{◌+◌, ℕ, Option, take, sym, subst, arith}
-use Rattle.match_tables.specs.Demand.{left_sides_of}
 use Rattle.match_tables.specs.Completing.{IsAnswered}
 use Rattle.match_tables.proofs.Moved.{place-of, get-contained}
 use Rattle.match_tables.proofs.Firsts.{answer-take, answer-pass, answer-all}

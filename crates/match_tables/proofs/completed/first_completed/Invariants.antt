@@ -1,5 +1,4 @@
 use Rattle.std.proofs.Common.{take}
-use Rattle.match_tables.specs.Demand.{left_sides_of}
 use Rattle.match_tables.specs.Completing.{IsAnswered}
 use Rattle.match_tables.proofs.completed.first_completed.Given as goal
 

@@ -1,5 +1,4 @@
 use Rattle.std.proofs.Common.{[], refl, arith}
-use Rattle.match_tables.specs.Demand.{left_sides_of}
 use Rattle.match_tables.proofs.Moved.{root-place, element-at}
 use Rattle.match_tables.proofs.Firsts.{first-none, first-root, completes-below}
 use Rattle.match_tables.proofs.completed.first_completed_root.Goals as goal

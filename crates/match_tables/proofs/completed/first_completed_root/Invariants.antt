@@ -1,5 +1,4 @@
 use Rattle.std.proofs.Common.{ℕ, ◌<◌}
-use Rattle.match_tables.specs.Demand.{left_sides_of}
 use Rattle.match_tables.specs.Completing.{CompletesAt}
 use Rattle.match_tables.proofs.completed.first_completed_root.Given as goal
 

@@ -1,5 +1,4 @@
 use Rattle.std.proofs.Common.{arith}
-use Rattle.match_tables.specs.Demand.{left_sides_of}
 use Rattle.match_tables.proofs.Moved.{moved-none, step-push, step-pass, item-cell, step-done, place-of, cell-small}
 use Rattle.match_tables.proofs.further.further.Goals as goal
 use Rattle.match_tables.proofs.further.further.Goals.{then-moves_on+in_ok-push, else-moves_on}

@@ -1,5 +1,4 @@
 use Rattle.std.proofs.Common.{take}
-use Rattle.match_tables.specs.Demand.{left_sides_of}
 use Rattle.match_tables.proofs.Moved.{MovedFrom}
 use Rattle.match_tables.proofs.further.further.Given as goal
 

@@ -1,5 +1,4 @@
 use Rattle.std.proofs.Common.{arith}
-use Rattle.match_tables.specs.Demand.{left_sides_of}
 use Rattle.match_tables.proofs.Moved.{roots-none, roots-push, roots-pass, roots-done, root-place, element-at, length-left_sides_of}
 use Rattle.match_tables.proofs.further.push_behind_roots.Goals as goal
 use Rattle.match_tables.proofs.further.push_behind_roots.Goals.{then-moves_on+in_ok-push, else-moves_on}

@@ -1,4 +1,3 @@
-use Rattle.match_tables.specs.Demand.{left_sides_of}
 use Rattle.match_tables.proofs.Moved.{RootsBelow}
 use Rattle.match_tables.proofs.further.push_behind_roots.Given as goal
 

@@ -1,6 +1,6 @@
 use Rattle.std.proofs.Common.{arith, take}
 use Rattle.match_tables.proofs.Moved.{place-there}
-use Rattle.match_tables.proofs.Naming.{NamesIn, each-none, each-more, each-all, names-in, still-named, item-place, item-equation}
+use Rattle.match_tables.proofs.Naming.{NamesIn, each-more, each-all, names-in, still-named, item-place, item-equation}
 use Rattle.match_tables.proofs.row.heads_of.Goals as goal
 
 pub equation-requires : goal.equation-requires

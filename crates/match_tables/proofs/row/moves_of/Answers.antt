@@ -1,4 +1,3 @@
-use Rattle.std.proofs.Common.{ap, ◌∙◌}
 use Rattle.match_tables.proofs.Moved.{element-at}
 use Rattle.match_tables.proofs.Extending.{still-below, extends-both, moves-push}
 use Rattle.match_tables.proofs.Fresh.{keeps-read}

@@ -1,7 +1,7 @@
-use Rattle.std.proofs.Common.{arith, ap, sym, subst}
+use Rattle.std.proofs.Common.{arith, sym, subst}
 use Rattle.eq_base.specs.Cells.{kind_of}
 use Rattle.match_tables.specs.Rows.{HasNamed}
-use Rattle.match_tables.proofs.Inserted.{keeps-itself, keeps-both, members-named, past-named, none-named, truth-named}
+use Rattle.match_tables.proofs.Inserted.{members-named}
 use Rattle.match_tables.proofs.row.push_named.Goals as goal
 
 pub returns-in_ok-push_members-in-Class-clause-named : goal.returns-in_ok-push_members-in-Class-clause-named

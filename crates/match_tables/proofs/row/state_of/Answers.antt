@@ -1,8 +1,7 @@
-use Rattle.std.proofs.Common.{◌≡◌, slice_get, Some, sym, ap, subst, ◌∙◌}
-use Rattle.match_tables.specs.Items.{ItemSet}
-use Rattle.match_tables.specs.Searching.{Extends, KeepsReachable}
+use Rattle.std.proofs.Common.{sym, subst}
+use Rattle.match_tables.specs.Searching.{KeepsReachable}
 use Rattle.match_tables.specs.Answering.{IsWanted}
-use Rattle.match_tables.specs.Rows.{HaveNamed, IsRow, AreRight, IsRight}
+use Rattle.match_tables.specs.Rows.{HaveNamed, AreRight, IsRight}
 use Rattle.match_tables.proofs.Extending.{still-below, extends-both, extends-right, extends-moves, extends-skip, right-skip}
 use Rattle.match_tables.proofs.Fresh.{keeps-skip, keeps-other, fresh-numeral, fresh-atom, fresh-string, named-at, same-set}
 use Rattle.match_tables.proofs.row.state_of.Goals as goal

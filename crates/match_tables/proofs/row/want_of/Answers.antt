@@ -1,4 +1,4 @@
-use Rattle.std.proofs.Common.{arith, true≢false, sym, ◌∙◌}
+use Rattle.std.proofs.Common.{arith}
 use Rattle.match_tables.proofs.Moved.{place-there}
 use Rattle.match_tables.proofs.Naming.{IsUntested, each-more, each-all, untested, item-place, item-equation, wants-read, wants-skip}
 use Rattle.match_tables.proofs.row.want_of.Goals as goal

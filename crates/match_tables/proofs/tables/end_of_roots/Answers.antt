@@ -1,6 +1,6 @@
-use Rattle.std.proofs.Common.{◌+◌, ◌≤◌, ℕ, subst, sym, arith}
+use Rattle.std.proofs.Common.{arith}
 use Rattle.match_tables.proofs.Moved.{root-place, place-there}
-use Rattle.match_tables.proofs.Rooted.{FirstBelow, below-more, below-all}
+use Rattle.match_tables.proofs.Rooted.{below-more, below-all}
 use Rattle.match_tables.proofs.tables.end_of_roots.Goals as goal
 use Rattle.match_tables.proofs.tables.end_of_roots.Goals.{then-end-own, else-end-own}
 

@@ -1,4 +1,4 @@
-use Rattle.std.proofs.Common.{◌≡◌, slice_get, Some, [], ◌∷◌, refl, sym, ap, subst, ◌∙◌}
+use Rattle.std.proofs.Common.{◌≡◌, slice_get, Some, [], sym, ap, subst}
 use Rattle.match_tables.specs.Searching.{AreFound}
 use Rattle.match_tables.specs.Tabled.{AreTablesOf}
 use Rattle.match_tables.proofs.Complete.{found-first}

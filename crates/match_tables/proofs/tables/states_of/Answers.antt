@@ -1,4 +1,4 @@
-use Rattle.std.proofs.Common.{◌≡◌, ◌<◌, ◌≤◌, slice_get, Some, subst, sym, length, length-append, [], ◌∷◌, arith}
+use Rattle.std.proofs.Common.{◌≡◌, ◌<◌, ◌≤◌, slice_get, Some, subst, length, length-append, [], ◌∷◌, arith}
 use Rattle.match_tables.proofs.Moved.{element-at}
 use Rattle.match_tables.proofs.Counted.{found-few}
 use Rattle.match_tables.proofs.Extending.{extends-both, still-below}

@@ -1,1 +1,0 @@
-use Rattle.match_tables.proofs.row.State.place_of.Goals as goal

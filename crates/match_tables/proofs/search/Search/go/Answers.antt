@@ -1,4 +1,4 @@
-use Rattle.std.proofs.Common.{rules, Err, ◌≡◌, slice_get, Some, ap, sym, subst, ◌∙◌}
+use Rattle.std.proofs.Common.{rules, Err, ◌≡◌, slice_get, ap, sym, ◌∙◌}
 use Rattle.match_tables.specs.Searching.{IsFindable}
 use Rattle.match_tables.proofs.Holding.{next-items, found-added, stopped, extends-interned}
 use Rattle.match_tables.proofs.search.Search.go.Goals as goal

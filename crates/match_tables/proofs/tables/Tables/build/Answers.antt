@@ -1,4 +1,4 @@
-use Rattle.std.proofs.Common.{sym, subst}
+use Rattle.std.proofs.Common.{subst}
 use Rattle.match_tables.specs.Tabled.{AreTablesOf}
 use Rattle.match_tables.proofs.Complete.{not-past}
 use Rattle.match_tables.proofs.tables.Tables.build.Goals as goal
