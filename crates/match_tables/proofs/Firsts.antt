@@ -105,7 +105,7 @@ module _ (rules : RuleList) (ends : List End) (are : AreEnds rules ends) where
         (subst (λ cs. Moves cs step (head_of (nth_subtree equation.left c))) theirs (subst (Moves classes step) (ap kind_of is ∙ kind_of-root_cell (nth_subtree equation.left c)) m))
 
     pub completed-moves : (classes : List (List Head)) → classes ≡ rules.classes → (code : cells.Cell) → code ≡ root_cell (nth_subtree equation.left c) → CompletesAt rules step e c → Moves classes step (kind_of code)
-    completed-moves classes theirs code is x = subst (λ cs. Moves cs step (kind_of code)) (sym theirs) ( subst (Moves rules.classes step) (sym (read-cell rules e equation listed c x.cell code is x.is_cell)) x.moves)
+    completed-moves classes theirs code is x = subst (λ cs. Moves cs step (kind_of code)) (sym theirs) (subst (Moves rules.classes step) (sym (read-cell rules e equation listed c x.cell code is x.is_cell)) x.moves)
 
   pub completed-end : (step : Step) (e c : ℕ) (d : End) → e < length rules.equations → CompletesAt rules step e c → (get_or ends e d).cell ≡ c
   completed-end step e c d lt x = sym (end-cell rules step e c (get_or ends e d) (end-at e d lt) x)

@@ -76,11 +76,13 @@ module _ (classes : List (List Head)) where
   symbol-named : (s : ℕ) (cell : PatternCell Head) → IsTested cell → Meets (in_class_of classes) cell (Symbol s) → Names classes cell (Symbol s)
   symbol-named s (fixed g) t m = m
   symbol-named s (variable y) t m = absurd t
-  symbol-named s (restricted y k) t m =
-      (⊎_elim
-      (λ lt. inl (truth k s (sym (as_symbols k (Symbol s) lt) ∙ m)))
-      (λ le. inr le)
-      (cases_lt k 4), m)
+  symbol-named s (restricted y k) t m = (
+    ⊎_elim
+        (λ lt. inl (truth k s (sym (as_symbols k (Symbol s) lt) ∙ m)))
+        (λ le. inr le)
+        (cases_lt k 4),
+    m,
+  )
     where
       left : (a b : Bool) → (a && b) ≡ true → a ≡ true
       left true b e = refl

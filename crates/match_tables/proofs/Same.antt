@@ -33,15 +33,15 @@ ordered-same [] (y ∷ ys) o p f g = absurd (let c = g y (first-in y ys) in omeg
 ordered-same (x ∷ xs) [] o p f g = absurd (let c = f x (first-in x xs) in omega (arith, c.1))
 ordered-same (x ∷ xs) (y ∷ ys) o p f g =
     let same : y ≡ x = ⊎_elim
-        (λ s. s)
-        (λ c. ⊎_elim
-        (λ s. sym s)
-        (λ d. absurd (not-both y x (all_contained (λ b. Precedes y b) ys x p.0 c) (all_contained (λ b. Precedes x b) xs y o.0 d)))
-        (first-or x xs y (g y (first-in y ys))))
-        (first-or y ys x (f x (first-in x xs))) in
+    (λ s. s)
+    (λ c. ⊎_elim
+    (λ s. sym s)
+    (λ d. absurd (not-both y x (all_contained (λ b. Precedes y b) ys x p.0 c) (all_contained (λ b. Precedes x b) xs y o.0 d)))
+    (first-or x xs y (g y (first-in y ys))))
+    (first-or y ys x (f x (first-in x xs))) in
     let rest = ordered-same xs ys o.1 p.1
-        (λ a c. ⊎_elim (λ s. absurd (not-itself a (subst (λ b. Precedes b a) (sym same ∙ s) (all_contained (λ b. Precedes x b) xs a o.0 c)))) (λ d. d) (first-or y ys a (f a (later-in x xs a c))))
-        (λ a c. ⊎_elim (λ s. absurd (not-itself a (subst (λ b. Precedes b a) (same ∙ s) (all_contained (λ b. Precedes y b) ys a p.0 c)))) (λ d. d) (first-or x xs a (g a (later-in y ys a c)))) in
+    (λ a c. ⊎_elim (λ s. absurd (not-itself a (subst (λ b. Precedes b a) (sym same ∙ s) (all_contained (λ b. Precedes x b) xs a o.0 c)))) (λ d. d) (first-or y ys a (f a (later-in x xs a c))))
+    (λ a c. ⊎_elim (λ s. absurd (not-itself a (subst (λ b. Precedes b a) (same ∙ s) (all_contained (λ b. Precedes y b) ys a p.0 c)))) (λ d. d) (first-or x xs a (g a (later-in y ys a c)))) in
     cc
 
 pub further-same : {H : Type 0} (lefts : List (Tree (PatternCell H))) (these : ℕ → ℕ → Type 0) (one other : ItemSet) → AreFurther lefts these one → AreFurther lefts these other → one ≡ other

@@ -123,5 +123,10 @@ fn completes(rules: &Rules, ends: &[End], equation: usize, cell: usize, step: St
     requires ends { AreEnds rules.now ends.now }
     ensures { IsTrue result ↔ CompletesAt rules.now step equation cell }
 {
-    ends[equation].cell as usize == cell && moves(rules.classes(), step, rules.equation(equation).left.cell(cell))
+    ends[equation].cell as usize == cell
+        && moves(
+            rules.classes(),
+            step,
+            rules.equation(equation).left.cell(cell),
+        )
 }

@@ -13,6 +13,3 @@ mod tables;
 
 pub use advance::{Advance, Want};
 pub use tables::Tables;
-
-
-

@@ -40,7 +40,7 @@ impl Tables {
     ghost use Rattle.match_tables.specs.declared.step.Step.TheVariants.{Read};
 
     /// The tables of equations, or none where the reachable item sets hold together more than 2^22 items below the roots.
-        pub fn build(alloc: Global, regular: &Regular) -> Result<Option<Tables>, NoMemory>
+    pub fn build(alloc: Global, regular: &Regular) -> Result<Option<Tables>, NoMemory>
         ensures { IfOk result (IsBuilt regular.now) }
     {
         match find(alloc, regular.rules()) {

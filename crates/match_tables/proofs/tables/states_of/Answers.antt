@@ -20,7 +20,7 @@ loop-alloc-preserved c = (
   c.in_ok-state.ensures.found,
   extends-both c.args.search.now c.loop-alloc.search c.state_of.new.search c.loop-alloc.invariant.1 c.in_ok-state.ensures.extends,
   rw c.in_ok-push.ensures.items (rows-push c.args.rules.now c.loop-alloc.search c.state_of.new.search c.in_ok-state.ensures.extends c.loop-alloc.states.items c.in_ok-state.state (below c) c.loop-alloc.invariant.2
-  (λ items at. c.in_ok-state.ensures.row items (subst (λ k. slice_get c.loop-alloc.search k ≡ Some items) (omega (arith, c.len-in-loop-alloc-2.ensures, c.loop-alloc.states.ok)) at))),
+      (λ items at. c.in_ok-state.ensures.row items (subst (λ k. slice_get c.loop-alloc.search k ≡ Some items) (omega (arith, c.len-in-loop-alloc-2.ensures, c.loop-alloc.states.ok)) at))),
   grown c,
 )
 
