@@ -1,11 +1,11 @@
 -- What tables answer of states that they have answered.
-use Rattle.std.proofs.Common.{◌<◌, ℕ, [], arith}
+use Rattle.std.proofs.Common.{ℕ, arith}
 use Rattle.std.proofs.lemmas.Option.{slice_get_within}
 use Rattle.eq_base.specs.declared.head.Head.{Head}
-use Rattle.match_tables.specs.Answering.{StandsFor, ReadLeads, SkipLeads}
+use Rattle.match_tables.specs.Answering.{ReadLeads, SkipLeads}
 use Rattle.match_tables.specs.Tabled.{IsState}
 use Rattle.match_tables.specs.declared.tables.Tables.{Tables}
-use Rattle.graph_tests.specs.KnownStates.{AreSomeTables, IsKnown}
+use Rattle.graph_tests.specs.KnownStates.{IsKnown}
 
 module _ (tables : Tables) (state : ℕ) (known : IsKnown tables state) where
   pub state-of : IsState tables state
