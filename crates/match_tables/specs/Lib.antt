@@ -1,0 +1,9 @@
+pub mod Steps
+pub mod Moving
+pub mod Sets
+pub mod Ending
+pub mod Completing
+pub mod Searching
+pub mod Answering
+pub mod Rows
+pub mod Tabled

@@ -1,0 +1,163 @@
+// The search for the reachable item sets.
+ghost use Rattle.std.specs.Prelude.{◌≡◌, ◌<◌, ◌≤◌, [], ◌∷◌, length, slice_get, Some, IfOk, IfErr};
+ghost use Rattle.regularity.specs.WellFormed.{AreWellFormed};
+ghost use Rattle.match_laws.specs.Reachable.{total_items};
+ghost use Rattle.match_tables.specs.Completing.{AreEnds};
+ghost use Rattle.match_laws.specs.Items.{ItemSet};
+
+use crate::completed::{End, first_completed};
+use crate::further::{Item, further};
+use crate::sets::ItemSets;
+use crate::step::Step;
+use eq_base::{NoMemory, Rules};
+use std::alloc::{AllocFailed, Global};
+use std::marker::Model;
+
+/// The most items below the roots that all item sets may hold together.
+pub const MOST_ITEMS: usize = 4_194_304;
+
+/// Why a search stops before its end.
+#[derive(Clone, Copy, PartialEq, Eq, Debug)]
+pub enum Stop {
+    /// The item sets hold together more items than may be.
+    Past,
+    /// Out of memory.
+    NoMemory,
+}
+
+impl From<NoMemory> for Stop {
+    ghost use Rattle.match_tables.specs.declared.search.Stop.TheVariants.{NoMemory};
+
+    ghost from_gives = { λ _ stop. stop ≡ NoMemory };
+
+    fn from(_error: NoMemory) -> Self {
+        Stop::NoMemory
+    }
+}
+
+impl<T: Drop> From<AllocFailed<T>> for Stop {
+    ghost use Rattle.match_tables.specs.declared.search.Stop.TheVariants.{NoMemory};
+
+    ghost from_gives = { λ _ stop. stop ≡ NoMemory };
+
+    fn from(_failed: AllocFailed<T>) -> Self {
+        Stop::NoMemory
+    }
+}
+
+/// Where a step leads.
+#[derive(Clone, Copy, PartialEq, Eq, Debug)]
+pub struct Move {
+    /// The number of the next item set.
+    pub next: usize,
+    /// The first equation whose left side is completed, if there is one.
+    pub completed: Option<u16>,
+}
+
+/// The item sets found so far. Contracts see the list of them.
+#[derive(Drop)]
+pub struct Search {
+    sets: ItemSets,
+    held: usize,
+}
+
+impl Model for Search {
+    ghost use Rattle.std.specs.Prelude.{◌≡◌, ℕ, List};
+    ghost use Rattle.match_laws.specs.Reachable.{total_items};
+
+    ghost Value = { List (List (ℕ × ℕ)) };
+
+    ghost view = { λ s. s.sets };
+
+    ghost invariant = { λ s. s.held ≡ total_items s.sets };
+}
+
+impl Search {
+    ghost use Rattle.match_tables.specs.Searching.{IsAdded, IsNotAdded, Extends, AreFound, KeepsReachable, IsStopped};
+    ghost use Rattle.match_tables.specs.Rows.{IsRight};
+    ghost use Rattle.match_tables.specs.Sets.{AreDistinct};
+
+    /// The item set of the roots alone.
+    pub fn new(alloc: Global) -> Result<Search, NoMemory>
+        ensures { IfOk result (λ search. search ≡ [] ∷ []) }
+    {
+        let mut sets = ItemSets::new(alloc);
+        sets.insert(Vec::new(alloc))?;
+        Ok(Search { sets, held: 0 })
+    }
+
+    /// How many item sets have been found.
+    pub fn len(&self) -> usize
+        ensures { result ≡ length self.now }
+    {
+        self.sets.len()
+    }
+
+    /// The item set with a number.
+    pub fn get(&self, number: usize) -> &[Item]
+        requires { number < length self.now }
+        ensures { slice_get self.now number ≡ Some result.now }
+    {
+        self.sets.get(number)
+    }
+
+    /// The number of an item set, which is kept if it is new.
+    ///
+    /// # Errors
+    ///
+    /// Too many items, or out of memory.
+    pub fn add(&mut self, items: Vec<Item>) -> Result<usize, Stop>
+        requires { total_items self.old ≤ 4194304 }
+        ensures ok { IfOk result (λ number. IsAdded self.old self.new items.items number) }
+        ensures err { IfErr result (λ stop. IsNotAdded self.old self.new items.items stop) }
+        ensures distinct { AreDistinct self.new }
+    {
+        let before = self.sets.len();
+        let more = items.len();
+        let Ok(number) = self.sets.insert(items) else {
+            return Err(Stop::NoMemory);
+        };
+        if before < self.sets.len() {
+            self.held += more;
+        }
+        if MOST_ITEMS < self.held {
+            return Err(Stop::Past);
+        }
+        Ok(number)
+    }
+
+    /// Where a step leads from an item set.
+    pub fn go(
+        &mut self,
+        alloc: Global,
+        rules: &Rules,
+        ends: &[End],
+        state: usize,
+        step: Step,
+    ) -> Result<Move, Stop>
+        requires rules { AreWellFormed rules.now }
+        requires ends { AreEnds rules.now ends.now }
+        requires found { AreFound rules.now self.old }
+        requires state { state < length self.old }
+        requires reached { KeepsReachable rules.now self.old state step }
+        ensures right { IfOk result (λ to. (items : ItemSet) → slice_get self.old state ≡ Some items
+            → IsRight rules.now self.new items step to) }
+        ensures found { IfOk result (λ to. AreFound rules.now self.new) }
+        ensures extends { IfOk result (λ to. Extends self.old self.new) }
+        ensures err { IfErr result (IsStopped rules.now) }
+    {
+        let items = self.sets.get(state);
+        let completed = first_completed(rules, ends, items, step);
+        let items = further(alloc, rules, items, step)?;
+        let next = self.add(items)?;
+        Ok(Move { next, completed })
+    }
+
+    /// The item sets.
+    pub fn finish(self) -> ItemSets
+        ensures { result ≡ self }
+    {
+        let Search { sets, held: _ } = self;
+        sets
+    }
+}
