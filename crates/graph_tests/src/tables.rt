@@ -2,10 +2,14 @@
 ghost use Rattle.graph_tests.specs.KnownStates.{AreSomeTables, IsKnown};
 
 use crate::stores::addition;
-use eq_base::Head;
+use eq_base::{
+    Cell, Classes, Equation, Head, NoMemory, Origin, Pattern, PatternMaker, Right, Rules,
+    SymbolClass,
+};
 use match_tables::{Advance, Tables, Want};
 use regularity::are_well_formed;
 use sequentiality::Regular;
+use std::alloc::Global;
 use std::test::Fail;
 
 const Z: Head = Head::Symbol(2);
@@ -99,5 +103,75 @@ fn addition_has_five_states(rt: HostRuntime) -> Result<(), Fail> {
         panic!(rt; "there are tables");
     };
     assert!(rt; has_five_states(&tables));
+    Ok(())
+}
+
+// The symbol with 25 arguments.
+const WIDE: Head = Head::Symbol(2);
+
+// A constant.
+fn constant(i: u8) -> Head {
+    Head::Symbol(u32::from(i) + 2)
+}
+
+// The wide symbol over 0 at one argument, its constant at the last one, and numerals at the others.
+fn wide_left(alloc: Global, i: u8) -> Result<Option<Pattern>, NoMemory> {
+    let mut maker = PatternMaker::new(alloc);
+    maker.push_cell(Cell::Head(WIDE, 25))?;
+    for at in 1..26u8 {
+        let cell = if at == i {
+            Cell::Head(Head::Numeral(0), 0)
+        } else if at == 25 {
+            Cell::Head(constant(i), 0)
+        } else {
+            Cell::Class(u32::from(at), SymbolClass::Numerals.number())
+        };
+        if maker.missing() > 0 {
+            maker.push_cell(cell)?;
+        }
+    }
+    Ok(if maker.missing() == 0 {
+        Some(maker.finish())
+    } else {
+        None
+    })
+}
+
+// A constant as a right side.
+fn constant_right(alloc: Global, i: u8) -> Result<Pattern, NoMemory> {
+    let mut maker = PatternMaker::new(alloc);
+    maker.push_cell(Cell::Head(constant(i), 0))?;
+    Ok(maker.finish())
+}
+
+// The 24 equations whose left sides have 0 at one argument each.
+fn wide_rules(alloc: Global) -> Result<Rules, NoMemory> {
+    let mut rules = Rules::new(alloc, Classes::new(alloc));
+    for i in 1..25u8 {
+        if let Some(left) = wide_left(alloc, i)? {
+            rules.push(Equation {
+                left,
+                right: Right::Tree(constant_right(alloc, i)?),
+                origin: Origin {
+                    item: u32::from(i),
+                    part: 0,
+                },
+            })?;
+        }
+    }
+    Ok(rules)
+}
+
+#[test]
+fn wide_left_sides_have_no_tables(rt: HostRuntime) -> Result<(), Fail> {
+    let rules = wide_rules(rt.alloc())?;
+    assert_eq!(rt; rules.len(), 24);
+    if !are_well_formed(&rules, &[0, 0, 25]) {
+        panic!(rt; "the equations are well formed");
+    }
+    let Ok(regular) = Regular::admit(rt.alloc(), rules) else {
+        panic!(rt; "the equations break nothing");
+    };
+    assert!(rt; Tables::build(rt.alloc(), &regular)?.is_none());
     Ok(())
 }
