@@ -1,0 +1,72 @@
+-- Arguments of a node before a place and behind it, and the nodes on a stack.
+use Rattle.std.proofs.Common.{◌≡◌, ℕ, suc, ◌+◌, ◌-◌, ◌<◌, List, [], ◌∷◌, ◌++◌, Some, length, take, refl, arith, sym, ◌∙◌, ap, subst}
+use Rattle.std.specs.Prelude.{reverse, slice_get, slice_index_or}
+use Rattle.std.proofs.lemmas.List.{reverse-append, length-reverse}
+use Rattle.std.proofs.lemmas.Option.{get_or_from_slice_get, slice_get-get_or}
+use Rattle.eq_base.specs.Tree.{Tree, Forest, node, empty, grow, count, map_heads, map_all_heads, subtree_at, subtree_in}
+use Rattle.eq_base.specs.Storing.{join}
+use Rattle.eq_base.specs.declared.head.Head.{Head}
+use Rattle.eq_base.specs.declared.head.Head.TheVariants.{Symbol}
+use Rattle.eq_base.proofs.Heads.{some_same}
+use Rattle.graph_laws.specs.Numbered.{Numbered, root_number}
+use Rattle.term_graph.specs.Graph.{Graph, numbered_at, IsNumberedArgument}
+use Rattle.machine_laws.specs.Frames.{Frame, around}
+use Rattle.reducer.specs.Standing.{IsNode, IsAmong, AreAbove}
+use Rattle.reducer.specs.declared.machine.Above.{Above}
+
+module _ {A : Type 0} where
+  pub join-join : (ts us vs : Forest A) → join (join ts us) vs ≡ join ts (join us vs)
+  join-join empty us vs = refl
+  join-join (grow t ts) us vs = ap (grow t) (join-join ts us vs)
+
+  pub map-join : {B : Type 0} (f : A → B) (ts us : Forest A) → map_all_heads f (join ts us) ≡ join (map_all_heads f ts) (map_all_heads f us)
+  map-join f empty us = refl
+  map-join f (grow t ts) us = ap (grow (map_heads f t)) (map-join f ts us)
+
+  pub count-one_more : (ts : Forest A) (t : Tree A) → count (join ts (grow t empty)) ≡ suc (count ts)
+  count-one_more empty t = refl
+  count-one_more (grow u ts) t = ap suc (count-one_more ts t)
+
+  pub next_argument : (ts : Forest A) (t : Tree A) (us : Forest A) → subtree_in (join ts (grow t us)) (count ts) [] ≡ Some t
+  next_argument empty t us = refl
+  next_argument (grow u ts) t us = next_argument ts t us
+
+-- the next argument of a node stands at its own number
+pub argument_node : (g : Graph) (n passed m : ℕ) (l : Head × ℕ) (before behind : Forest (Head × ℕ)) (t : Numbered Head) → IsAmong g.trees n passed l before (grow t behind) → IsNumberedArgument g n passed m → IsNode g.trees m t
+argument_node g n passed m l before behind t among is =
+    let leaf : Numbered Head = node (Symbol 0, 0) empty in
+    let whole : numbered_at g n ≡ node l (join before (grow t behind)) = get_or_from_slice_get g.trees n (node l (join before (grow t behind))) leaf among.is_node.stands in
+    let one : subtree_at (numbered_at g n) (passed ∷ []) ≡ Some t =
+        subst (λ z. subtree_at z (passed ∷ []) ≡ Some t) (sym whole)
+        (subst (λ k. subtree_in (join before (grow t behind)) k [] ≡ Some t) among.many (next_argument before t behind)) in
+    let same : numbered_at g m ≡ t = some_same (numbered_at g m) t (sym is.stands ∙ one) in
+    record {
+      own = subst (λ z. root_number z ≡ m) same is.followed.own;
+      stands = subst (λ z. slice_get g.trees m ≡ Some z) same (slice_get-get_or g.trees m leaf is.followed.there);
+    }
+
+-- one argument more is passed
+pub one_passed : (trees : List (Numbered Head)) (n passed : ℕ) (l : Head × ℕ) (before behind : Forest (Head × ℕ)) (t : Numbered Head) → IsAmong trees n passed l before (grow t behind) → IsAmong trees n (passed + 1) l (join before (grow t empty)) behind
+one_passed trees n passed l before behind t among = record {
+  is_node = subst (λ z. IsNode trees n (node l z)) (sym (join-join before (grow t empty) behind)) among.is_node;
+  many = omega (arith, count-one_more before t, among.many);
+}
+
+-- a node pushed is the first above
+pub pushed : (items : List Above) (a : Above) → reverse (items ++ a ∷ []) ≡ a ∷ reverse items
+pushed items a = reverse-append items (a ∷ [])
+
+-- where no node is above, there is no frame
+pub no_frames : (trees : List (Numbered Head)) (frames : List (Frame (Head × ℕ))) (t : Numbered Head) (items : List Above) → AreAbove trees (reverse items) frames t → length items ≡ 0 → frames ≡ []
+no_frames trees frames t items above none = no_more (reverse items) frames above (length-reverse items ∙ none)
+  where
+    no_more : (these : List Above) (frames : List (Frame (Head × ℕ))) → AreAbove trees these frames t → length these ≡ 0 → frames ≡ []
+    no_more [] [] a e = refl
+    no_more [] (_ ∷ _) a e = elim a [ ]
+    no_more (x ∷ these) frames a e = absurd (omega (arith, e))
+
+-- where nothing was popped, the stack was empty
+pub nothing_popped : (old new : List Above) (len : ℕ) → len ≡ 0 → new ≡ take (len - 1) old → old ≡ new ++ [] → length old ≡ 0
+nothing_popped old new len none rest items =
+    let no : new ≡ [] = subst (λ k. new ≡ take (k - 1) old) none rest in
+    ap length (subst (λ z. old ≡ z ++ []) no items)
