@@ -4,15 +4,17 @@ use Rattle.std.specs.Prelude.{reverse}
 use Rattle.eq_base.specs.Tree.{Forest, node, empty, grow}
 use Rattle.eq_base.specs.Storing.{join, join-empty}
 use Rattle.eq_base.specs.ReadHead.{ReadHead}
-use Rattle.eq_base.specs.Rewriting.{System}
+use Rattle.eq_base.specs.Rewriting.{System, IsNormal}
 use Rattle.eq_base.specs.declared.head.Head.{Head}
 use Rattle.symbol_table.specs.Table.{Table}
+use Rattle.symbol_table.specs.Reading.{read_head}
+use Rattle.machine_laws.specs.ReadTrees.{with_heads}
 use Rattle.match_laws.specs.Items.{ItemSet}
-use Rattle.graph_laws.specs.Numbered.{Numbered}
+use Rattle.graph_laws.specs.Numbered.{Numbered, plain}
 use Rattle.term_graph.specs.Graph.{Graph, IsNumberedArgument}
 use Rattle.machine_laws.specs.Frames.{Frame, around}
-use Rattle.machine_laws.specs.Places.{Place, arriving, turning, ended, Turn, turn_down, turn_up, turn_end}
-use Rattle.reducer.specs.Standing.{AreAbove, IsNode, IsAmong, IsTurning}
+use Rattle.machine_laws.specs.Places.{Place, arriving, turning, ended, Turn, turn_down, turn_up, turn_end, turn_marked, turn_marked_root}
+use Rattle.reducer.specs.Standing.{AreAbove, IsNode, IsAmong, IsArriving, IsTurning}
 use Rattle.reducer.specs.Turning.{LeadsOn, read_label, read_forest, read_frame, read_frames, read_place}
 use Rattle.reducer.specs.declared.machine.Above.{Above}
 use Rattle.reducer.specs.declared.machine.Here.TheVariants.{Arriving, Turning, Ended}
@@ -33,13 +35,12 @@ module _ (system : System ReadHead) (table : Table) (sets : List ItemSet) where
           (one_passed g.trees number passed l before behind t turns.is_among, turns.above) in
       record {
         next = arriving (f ∷ outer) t;
-        stands = record {
-          number = m;
+        stands = (m, record {
           here = here;
           is_node = argument_node g number passed m l before behind t turns.is_among is;
           above = subst (λ z. AreAbove g.trees z (f ∷ outer) t) (sym (ap reverse items ∙ pushed old.outer.items a)) above;
           alone = same ∙ turns.alone;
-        };
+        });
         turn = turn_down;
       }
 
@@ -55,33 +56,35 @@ module _ (system : System ReadHead) (table : Table) (sets : List ItemSet) where
       let no : outer ≡ [] = no_frames trees outer (node l (join before empty)) old.outer.items turns.above none in
       record {
         next = ended (node l before);
-        stands = record {
-          number = number;
+        stands = (number, record {
           here = here;
           is_node = subst (IsNode trees number) (bare l before) turns.is_among.is_node;
-        };
+        });
         turn = subst (λ z. Turn system (read_place table (turning z l before empty)) (read_place table (ended (node l before)))) (sym no) turn_end;
       }
 
-  behind_node : (trees : List (Numbered Head)) (new : Machine) (a : Above) (rest : List Above)
-      (outer : List (Frame (Head × ℕ))) (l : Head × ℕ) (before : Forest (Head × ℕ))
-      → AreAbove trees (a ∷ rest) outer (node l before) → rest ≡ reverse new.outer.items
-      → new.here ≡ Turning a.node a.next → new.inner.items ≡ []
-      → LeadsOn system table sets trees new (turning outer l before empty)
-  behind_node trees new a rest [] l before above same here alone = elim above [ ]
-  behind_node trees new a rest (f ∷ outer) l before above same here alone =
-      let passed : Forest (Head × ℕ) = join f.before (grow (node l before) empty) in
+  -- behind a normal tree, in the node above
+  behind_node : (p : List (Frame (Head × ℕ)) → Place Head) (trees : List (Numbered Head)) (new : Machine)
+      (a : Above) (rest : List Above) (outer : List (Frame (Head × ℕ))) (t : Numbered Head)
+      → ((f : Frame (Head × ℕ)) (outs : List (Frame (Head × ℕ))) → Turn system (read_place table (p (f ∷ outs)))
+      (turning (read_frames table outs) (read_label table f.head)
+      (join (read_forest table f.before) (grow (with_heads (read_head table) t) empty)) (read_forest table f.behind)))
+      → AreAbove trees (a ∷ rest) outer t → rest ≡ reverse new.outer.items
+      → new.here ≡ Turning a.node a.next → new.inner.items ≡ [] → LeadsOn system table sets trees new (p outer)
+  behind_node p trees new a rest [] t turn above same here alone = elim above [ ]
+  behind_node p trees new a rest (f ∷ outer) t turn above same here alone =
+      let passed : Forest (Head × ℕ) = join f.before (grow t empty) in
       record {
         next = turning outer f.head passed f.behind;
         stands = (a.node, a.next, record {
           here = here;
           is_among = above.0;
           above = subst (λ z. AreAbove trees z outer (node f.head (join passed f.behind))) same
-              (subst (λ z. AreAbove trees rest outer (node f.head z)) (sym (join-join f.before (grow (node l before) empty) f.behind)) above.1);
+              (subst (λ z. AreAbove trees rest outer (node f.head z)) (sym (join-join f.before (grow t empty) f.behind)) above.1);
           alone = alone;
         });
-        turn = subst (λ z. Turn system (read_place table (turning (f ∷ outer) l before empty)) (turning (read_frames table outer) (read_label table f.head) z (read_forest table f.behind)))
-            (sym (map-join (read_label table) f.before (grow (node l before) empty))) turn_up;
+        turn = subst (λ z. Turn system (read_place table (p (f ∷ outer))) (turning (read_frames table outer) (read_label table f.head) z (read_forest table f.behind)))
+            (sym (map-join (read_label table) f.before (grow t empty))) (turn f outer);
       }
 
   pub goes_up : (trees : List (Numbered Head)) (old new : Machine) (number passed : ℕ) (a : Above)
@@ -91,7 +94,30 @@ module _ (system : System ReadHead) (table : Table) (sets : List ItemSet) where
       → new.here ≡ Turning a.node a.next → LeadsOn system table sets trees new (turning outer l before empty)
   goes_up trees old new number passed a outer l before turns items same here =
       let is : reverse old.outer.items ≡ a ∷ reverse new.outer.items = ap reverse items ∙ pushed new.outer.items a in
-      behind_node trees new a (reverse new.outer.items) outer l before
+      behind_node (λ z. turning z l before empty) trees new a (reverse new.outer.items) outer (node l before)
+      (λ f outs. turn_up)
       (subst (AreAbove trees (a ∷ reverse new.outer.items) outer) (bare l before)
       (subst (λ z. AreAbove trees z outer (node l (join before empty))) is turns.above))
       refl here (same ∙ turns.alone)
+
+  pub arrives_end : (trees : List (Numbered Head)) (old new : Machine) (number : ℕ)
+      (outer : List (Frame (Head × ℕ))) (t : Numbered Head) → IsArriving trees old number outer t
+      → IsNormal system (plain (with_heads (read_head table) t)) → length old.outer.items ≡ 0
+      → new.here ≡ Ended number → LeadsOn system table sets trees new (arriving outer t)
+  arrives_end trees old new number outer t arrives normal none here =
+      let no : outer ≡ [] = no_frames trees outer t old.outer.items arrives.above none in
+      record {
+        next = ended t;
+        stands = (number, record { here = here; is_node = arrives.is_node });
+        turn = subst (λ z. Turn system (read_place table (arriving z t)) (read_place table (ended t))) (sym no) (turn_marked_root normal);
+      }
+
+  pub arrives_up : (trees : List (Numbered Head)) (old new : Machine) (number : ℕ) (a : Above)
+      (outer : List (Frame (Head × ℕ))) (t : Numbered Head) → IsArriving trees old number outer t
+      → IsNormal system (plain (with_heads (read_head table) t))
+      → old.outer.items ≡ new.outer.items ++ a ∷ [] → new.inner.items ≡ old.inner.items
+      → new.here ≡ Turning a.node a.next → LeadsOn system table sets trees new (arriving outer t)
+  arrives_up trees old new number a outer t arrives normal items same here =
+      let is : reverse old.outer.items ≡ a ∷ reverse new.outer.items = ap reverse items ∙ pushed new.outer.items a in
+      behind_node (λ z. arriving z t) trees new a (reverse new.outer.items) outer t (λ f outs. turn_marked normal)
+      (subst (λ z. AreAbove trees z outer t) is arrives.above) refl here (same ∙ arrives.alone)

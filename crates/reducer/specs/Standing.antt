@@ -34,8 +34,8 @@ module _ (trees : List (Numbered Head)) where
       IsAmong a.node a.next f.head (join f.before (grow t empty)) f.behind × AreAbove above frames (around f t)
 
   -- at a node that is to be normalised
-  pub record IsArriving (machine : Machine) (outer : List (Frame (Head × ℕ))) (t : Numbered Head) : Type 0 where
-    pub number : ℕ
+  pub record IsArriving (machine : Machine) (number : ℕ) (outer : List (Frame (Head × ℕ)))
+      (t : Numbered Head) : Type 0 where
     pub here : machine.here ≡ Arriving number
     pub is_node : IsNode number t
     pub above : AreAbove (reverse machine.outer.items) outer t
@@ -50,41 +50,42 @@ module _ (trees : List (Numbered Head)) where
     pub alone : machine.inner.items ≡ []
 
   -- at the end, at the root
-  pub record IsEnded (machine : Machine) (t : Numbered Head) : Type 0 where
-    pub number : ℕ
+  pub record IsEnded (machine : Machine) (number : ℕ) (t : Numbered Head) : Type 0 where
     pub here : machine.here ≡ Ended number
     pub is_node : IsNode number t
 
+  -- the nodes on the two stacks stand for these frames around the tree, and the reading began at its own node
+  pub record AreStacks (machine : Machine) (outer inner : List (Frame (Head × ℕ))) (t : Numbered Head)
+      : Type 0 where
+    pub within : AreAbove (reverse machine.inner.items) inner t
+    pub above : AreAbove (reverse machine.outer.items) outer (plug inner t)
+    pub begun : IsNode machine.begun (plug inner t)
+
   module _ (sets : List ItemSet) where
     -- at a node whose head is to be read
-    pub record IsReading (machine : Machine) (outer inner : List (Frame (Head × ℕ))) (t : Numbered Head)
-        (items : ItemSet) : Type 0 where
-      pub number : ℕ
-      pub state : ℕ
+    pub record IsReading (machine : Machine) (number state : ℕ) (outer inner : List (Frame (Head × ℕ)))
+        (t : Numbered Head) (items : ItemSet) : Type 0 where
       pub here : machine.here ≡ Reading number state
       pub is_node : IsNode number t
       pub set : StandsFor sets state items
-      pub within : AreAbove (reverse machine.inner.items) inner t
-      pub above : AreAbove (reverse machine.outer.items) outer (plug inner t)
+      pub stacks : AreStacks machine outer inner t
 
     -- among the arguments of a node that is read
-    pub record IsReadAmong (machine : Machine) (outer inner : List (Frame (Head × ℕ))) (l : Head × ℕ)
-        (before behind : Forest (Head × ℕ)) (items : ItemSet) : Type 0 where
-      pub number : ℕ
-      pub passed : ℕ
-      pub state : ℕ
-      pub here : machine.here ≡ Among number passed state
-      pub is_among : IsAmong number passed l before behind
+    pub record IsReadAmong (machine : Machine) (at : Above) (state : ℕ)
+        (outer inner : List (Frame (Head × ℕ))) (l : Head × ℕ) (before behind : Forest (Head × ℕ))
+        (items : ItemSet) : Type 0 where
+      pub here : machine.here ≡ Among at state
+      pub is_among : IsAmong at.node at.next l before behind
       pub set : StandsFor sets state items
-      pub within : AreAbove (reverse machine.inner.items) inner (node l (join before behind))
-      pub above : AreAbove (reverse machine.outer.items) outer (plug inner (node l (join before behind)))
+      pub stacks : AreStacks machine outer inner (node l (join before behind))
 
     -- the machine stands for the place
     abbrev pub IsPlace : Machine → Place Head → Type 0
-    IsPlace machine (arriving outer t) = IsArriving machine outer t
-    IsPlace machine (reading outer inner t items) = IsReading machine outer inner t items
+    IsPlace machine (arriving outer t) = (number : ℕ) × IsArriving machine number outer t
+    IsPlace machine (reading outer inner t items) =
+        (number : ℕ) × (state : ℕ) × IsReading machine number state outer inner t items
     IsPlace machine (among outer inner l before behind items) =
-        IsReadAmong machine outer inner l before behind items
+        (at : Above) × (state : ℕ) × IsReadAmong machine at state outer inner l before behind items
     IsPlace machine (turning outer l before behind) =
         (number : ℕ) × (passed : ℕ) × IsTurning machine number passed outer l before behind
-    IsPlace machine (ended t) = IsEnded machine t
+    IsPlace machine (ended t) = (number : ℕ) × IsEnded machine number t

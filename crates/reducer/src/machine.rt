@@ -6,18 +6,24 @@
 ghost use Rattle.std.specs.Prelude.{◌≡◌, ℕ, ◌<◌, [], List, length, OnOk};
 ghost use Rattle.eq_base.specs.Tree.{Forest, arity_of, empty, grow};
 ghost use Rattle.eq_base.specs.ReadHead.{ReadHead};
-ghost use Rattle.eq_base.specs.Rewriting.{System};
+ghost use Rattle.eq_base.specs.RuleList.{RuleList};
+ghost use Rattle.eq_base.specs.Rewriting.{System, IsNormal};
 ghost use Rattle.symbol_table.specs.Table.{Table};
-ghost use Rattle.match_laws.specs.Items.{ItemSet};
+ghost use Rattle.symbol_table.specs.Reading.{read_head};
+ghost use Rattle.match_laws.specs.Items.{ItemSet, WantsNothing};
+ghost use Rattle.match_laws.specs.Demand.{left_sides};
+ghost use Rattle.match_tables.specs.Tabled.{AreTablesOf};
+ghost use Rattle.machine_laws.specs.ReadTrees.{with_heads};
 ghost use Rattle.machine_laws.specs.Frames.{Frame};
-ghost use Rattle.machine_laws.specs.Places.{turning};
-ghost use Rattle.graph_laws.specs.Numbered.{Numbered};
+ghost use Rattle.machine_laws.specs.Places.{arriving, among, turning};
+ghost use Rattle.graph_laws.specs.Numbered.{Numbered, plain};
 ghost use Rattle.term_graph.specs.Graph.{term_at};
-ghost use Rattle.reducer.specs.Standing.{IsTurning};
+ghost use Rattle.reducer.specs.Standing.{IsArriving, IsTurning, IsReadAmong};
 ghost use Rattle.reducer.specs.Turning.{LeadsOn};
 ghost use Rattle.eq_base.specs.declared.head.Head.{Head};
 
 use eq_base::NoMemory;
+use match_tables::Tables;
 use std::alloc::Global;
 use term_graph::Store;
 
@@ -36,8 +42,8 @@ enum Here {
     Arriving(usize),
     /// At a node whose head is to be read in this state.
     Reading(usize, usize),
-    /// Among the arguments of a node that is read, of which so many are passed, in this state.
-    Among(usize, u8, usize),
+    /// Among the arguments of a node that is read, in this state.
+    Among(Above, usize),
     /// Among the arguments of a settled node, of which so many are passed.
     Turning(usize, u8),
     /// At the end: the root is normal.
@@ -49,6 +55,8 @@ enum Here {
 pub struct Machine {
     outer: Vec<Above>,
     inner: Vec<Above>,
+    // Where the reading began.
+    begun: usize,
     here: Here,
 }
 
@@ -61,6 +69,7 @@ impl Machine {
         Machine {
             outer: Vec::new(alloc),
             inner: Vec::new(alloc),
+            begun: 0,
             here: Here::Ended(0),
         }
     }
@@ -85,16 +94,44 @@ impl Machine {
         Ok(())
     }
 
-    // Leaves a settled node, all of whose arguments are passed, and goes on behind it in the node above.
-    fn turn_up(&mut self, number: usize)
-        ensures { (system : System ReadHead) (table : Table) (sets : List ItemSet)
+    // Leaves a node, which is normal, and goes on behind it in the settled node above.
+    fn leave(&mut self, number: usize)
+        ensures turned { (system : System ReadHead) (table : Table) (sets : List ItemSet)
             (trees : List (Numbered Head)) (passed : ℕ) (outer : List (Frame (Head × ℕ))) (l : Head × ℕ)
             (before : Forest (Head × ℕ)) → IsTurning trees self.old number passed outer l before empty
             → LeadsOn system table sets trees self.new (turning outer l before empty) }
+        ensures arrived { (system : System ReadHead) (table : Table) (sets : List ItemSet)
+            (trees : List (Numbered Head)) (outer : List (Frame (Head × ℕ))) (t : Numbered Head)
+            → IsArriving trees self.old number outer t → IsNormal system (plain (with_heads (read_head table) t))
+            → LeadsOn system table sets trees self.new (arriving outer t) }
     {
         self.here = match self.outer.pop() {
             None => Here::Ended(number),
             Some(above) => Here::Turning(above.node, above.next),
         };
+    }
+
+    // Begins a reading at a node that is to be normalised.
+    fn begin(&mut self, tables: &Tables, number: usize)
+        ensures { (rules : RuleList) → AreTablesOf rules tables.now → (system : System ReadHead)
+            (table : Table) (trees : List (Numbered Head)) (outer : List (Frame (Head × ℕ)))
+            (t : Numbered Head) → IsArriving trees self.old number outer t
+            → LeadsOn system table tables.now.sets trees self.new (arriving outer t) }
+    {
+        self.begun = number;
+        self.here = Here::Reading(number, tables.start());
+    }
+
+    // Ends a reading without a redex: the arguments of the node where it began are normalised next.
+    fn end_reading(&mut self)
+        ensures { (system : System ReadHead) (table : Table) (sets : List ItemSet)
+            (trees : List (Numbered Head)) (at : Above) (state : ℕ)
+            (outer inner : List (Frame (Head × ℕ))) (l : Head × ℕ) (before behind : Forest (Head × ℕ))
+            (items : ItemSet) → IsReadAmong trees sets self.old at state outer inner l before behind items
+            → WantsNothing (left_sides system) items
+            → LeadsOn system table sets trees self.new (among outer inner l before behind items) }
+    {
+        self.inner.clear();
+        self.here = Here::Turning(self.begun, 0);
     }
 }
