@@ -1,15 +1,16 @@
 -- Arguments of a node before a place and behind it, and the nodes on a stack.
 use Rattle.std.proofs.Common.{◌≡◌, ℕ, suc, ◌+◌, ◌-◌, ◌<◌, List, [], ◌∷◌, ◌++◌, Some, length, take, refl, arith, sym, ◌∙◌, ap, subst}
 use Rattle.std.specs.Prelude.{reverse, slice_get, slice_index_or}
+use Rattle.std.proofs.Math.ListN.{get_or-map}
 use Rattle.std.proofs.lemmas.List.{reverse-append, length-reverse}
 use Rattle.std.proofs.lemmas.Option.{get_or_from_slice_get, slice_get-get_or}
-use Rattle.eq_base.specs.Tree.{Tree, Forest, node, empty, grow, count, map_heads, map_all_heads, subtree_at, subtree_in}
+use Rattle.eq_base.specs.Tree.{Tree, Forest, node, empty, grow, count, head_of, map_heads, map_all_heads, subtree_at, subtree_in}
 use Rattle.eq_base.specs.Storing.{join}
 use Rattle.eq_base.specs.declared.head.Head.{Head}
 use Rattle.eq_base.specs.declared.head.Head.TheVariants.{Symbol}
 use Rattle.eq_base.proofs.Heads.{some_same}
-use Rattle.graph_laws.specs.Numbered.{Numbered, root_number}
-use Rattle.term_graph.specs.Graph.{Graph, numbered_at, IsNumberedArgument}
+use Rattle.graph_laws.specs.Numbered.{Numbered, plain, root_number}
+use Rattle.term_graph.specs.Graph.{Graph, numbered_at, term_at, IsNumberedArgument}
 use Rattle.machine_laws.specs.Frames.{Frame, around}
 use Rattle.reducer.specs.Standing.{IsNode, IsAmong, AreAbove}
 use Rattle.reducer.specs.declared.machine.Above.{Above}
@@ -70,3 +71,13 @@ pub nothing_popped : (old new : List Above) (len : ℕ) → len ≡ 0 → new �
 nothing_popped old new len none rest items =
     let no : new ≡ [] = subst (λ k. new ≡ take (k - 1) old) none rest in
     ap length (subst (λ z. old ≡ z ++ []) no items)
+
+-- the term for which a node stands is its tree without numbers
+pub term_here : (g : Graph) (n : ℕ) (t : Numbered Head) → IsNode g.trees n t → term_at g n ≡ plain t
+term_here g n t is =
+    let leaf : Numbered Head = node (Symbol 0, 0) empty in
+    get_or-map plain g.trees n leaf ∙ ap plain (get_or_from_slice_get g.trees n t leaf is.stands)
+
+-- its head is that of the tree
+pub head_here : (g : Graph) (n : ℕ) (h : Head) (l : Head × ℕ) (args : Forest (Head × ℕ)) → IsNode g.trees n (node l args) → h ≡ head_of (term_at g n) → h ≡ l.0
+head_here g n h l args is same = same ∙ ap head_of (term_here g n (node l args) is)

@@ -3,27 +3,28 @@
 // Two stacks are the way down from the root. The nodes of the outer one are settled: they have no demanded redex,
 // and their arguments are normalised from left to right. Those of the inner one are the way of a reading, in
 // which all left sides begun on it are read at once.
-ghost use Rattle.std.specs.Prelude.{◌≡◌, ℕ, ◌<◌, [], List, length, OnOk};
-ghost use Rattle.eq_base.specs.Tree.{Forest, arity_of, empty, grow};
+ghost use Rattle.std.specs.Prelude.{◌≡◌, ℕ, ◌<◌, [], List, length, None, OnOk, IfSome};
+ghost use Rattle.eq_base.specs.Tree.{Forest, arity_of, node, empty, grow};
 ghost use Rattle.eq_base.specs.ReadHead.{ReadHead};
 ghost use Rattle.eq_base.specs.RuleList.{RuleList};
 ghost use Rattle.eq_base.specs.Rewriting.{System, IsNormal};
-ghost use Rattle.symbol_table.specs.Table.{Table};
-ghost use Rattle.symbol_table.specs.Reading.{read_head};
-ghost use Rattle.match_laws.specs.Items.{ItemSet, WantsNothing};
-ghost use Rattle.match_laws.specs.Demand.{left_sides};
-ghost use Rattle.match_tables.specs.Tabled.{AreTablesOf};
+ghost use Rattle.symbol_table.specs.Table.{Table, HasOneNumberEach};
+ghost use Rattle.symbol_table.specs.Reading.{read_head, read_system, IsLiveHead, AreLive};
+ghost use Rattle.match_laws.specs.Items.{ItemSet, IsFirstCompleted, WantsRead, WantsSkip, WantsNothing};
+ghost use Rattle.match_laws.specs.Demand.{left_sides, left_sides_of};
+ghost use Rattle.match_tables.specs.Tabled.{AreTablesOf, IsState};
 ghost use Rattle.machine_laws.specs.ReadTrees.{with_heads};
 ghost use Rattle.machine_laws.specs.Frames.{Frame};
-ghost use Rattle.machine_laws.specs.Places.{arriving, among, turning};
+ghost use Rattle.machine_laws.specs.Places.{arriving, reading, among, turning};
 ghost use Rattle.graph_laws.specs.Numbered.{Numbered, plain};
 ghost use Rattle.term_graph.specs.Graph.{term_at};
-ghost use Rattle.reducer.specs.Standing.{IsArriving, IsTurning, IsReadAmong};
+ghost use Rattle.reducer.specs.Standing.{IsArriving, IsReading, IsReadAmong, IsTurning};
 ghost use Rattle.reducer.specs.Turning.{LeadsOn};
 ghost use Rattle.eq_base.specs.declared.head.Head.{Head};
 
 use eq_base::NoMemory;
-use match_tables::Tables;
+use machine_laws::laws::sets_are_read;
+use match_tables::{Advance, Tables};
 use std::alloc::Global;
 use term_graph::Store;
 
@@ -33,6 +34,13 @@ struct Above {
     node: usize,
     next: u8,
     state: usize,
+}
+
+/// A left side that is completed: the first such equation, and how far above the node its root stands.
+#[derive(Clone, Copy)]
+struct Completed {
+    equation: usize,
+    height: usize,
 }
 
 /// Where the machine stands.
@@ -133,5 +141,105 @@ impl Machine {
     {
         self.inner.clear();
         self.here = Here::Turning(self.begun, 0);
+    }
+
+    // Goes into the next argument of a node that is read.
+    fn go_into(&mut self, store: &Store, at: Above, state: usize) -> Result<(), NoMemory>
+        requires node { at.node < length store.now.trees }
+        requires next { at.next < arity_of (term_at store.now at.node) }
+        requires few { at.next < 255 }
+        ensures { OnOk result ((system : System ReadHead) (table : Table) (sets : List ItemSet)
+            (outer inner : List (Frame (Head × ℕ))) (l : Head × ℕ) (before behind : Forest (Head × ℕ))
+            (t : Numbered Head) (items : ItemSet)
+            → IsReadAmong store.now.trees sets self.old at state outer inner l before (grow t behind) items
+            → WantsRead (left_sides system) items → LeadsOn system table sets store.now.trees self.new
+            (among outer inner l before (grow t behind) items)) }
+    {
+        self.inner.push(Above {
+            node: at.node,
+            next: at.next + 1,
+            state: at.state,
+        })?;
+        self.here = Here::Reading(store.arg(at.node, at.next as usize), state);
+        Ok(())
+    }
+
+    // Leaves a node, all of whose arguments are read, and goes on behind it in the node above.
+    fn go_back(&mut self, at: Above, state: usize)
+        ensures { (system : System ReadHead) (table : Table) (sets : List ItemSet)
+            (trees : List (Numbered Head)) (outer inner : List (Frame (Head × ℕ))) (l : Head × ℕ)
+            (before : Forest (Head × ℕ)) (items : ItemSet)
+            → IsReadAmong trees sets self.old at state outer inner l before empty items
+            → LeadsOn system table sets trees self.new (among outer inner l before empty items) }
+    {
+        self.here = match self.inner.pop() {
+            None => Here::Turning(at.node, 0),
+            Some(above) => Here::Among(above, state),
+        };
+    }
+
+    // Passes the next argument of a node that is read, which no left side tests.
+    fn skip(&mut self, tables: &Tables, at: Above, state: usize)
+        requires state { IsState tables.now state }
+        requires few { at.next < 255 }
+        ensures { (table : Table) → HasOneNumberEach table → (rules : RuleList) → AreLive table rules
+            → AreTablesOf rules tables.now → (trees : List (Numbered Head))
+            (outer inner : List (Frame (Head × ℕ))) (l : Head × ℕ) (before behind : Forest (Head × ℕ))
+            (t : Numbered Head) (items : ItemSet)
+            → IsReadAmong trees tables.now.sets self.old at state outer inner l before (grow t behind) items
+            → WantsSkip (left_sides_of rules) items
+            → LeadsOn (read_system table rules) table tables.now.sets trees self.new
+            (among outer inner l before (grow t behind) items) }
+    {
+        sets_are_read();
+        let passed = Above {
+            node: at.node,
+            next: at.next + 1,
+            state: at.state,
+        };
+        self.here = Here::Among(passed, tables.skip(state));
+    }
+
+    // Reads the head of a node: goes on among its arguments, or finds that a left side is completed.
+    fn read(
+        &mut self,
+        store: &Store,
+        tables: &Tables,
+        number: usize,
+        state: usize,
+    ) -> Option<Completed>
+        requires node { number < length store.now.trees }
+        requires state { IsState tables.now state }
+        ensures goes { (table : Table) → HasOneNumberEach table → (rules : RuleList) → AreLive table rules
+            → AreTablesOf rules tables.now → (outer inner : List (Frame (Head × ℕ))) (l : Head × ℕ)
+            (args : Forest (Head × ℕ)) (items : ItemSet)
+            → IsReading store.now.trees tables.now.sets self.old number state outer inner (node l args) items
+            → IsLiveHead table l.0 → result ≡ None
+            → LeadsOn (read_system table rules) table tables.now.sets store.now.trees self.new
+            (reading outer inner (node l args) items) }
+        ensures finds { (table : Table) → HasOneNumberEach table → (rules : RuleList) → AreLive table rules
+            → AreTablesOf rules tables.now → (outer inner : List (Frame (Head × ℕ))) (l : Head × ℕ)
+            (args : Forest (Head × ℕ)) (items : ItemSet)
+            → IsReading store.now.trees tables.now.sets self.old number state outer inner (node l args) items
+            → IsLiveHead table l.0 → IfSome result (λ found.
+            IsFirstCompleted (read_system table rules).in_class (left_sides (read_system table rules)) items
+            (read_head table l.0) found.equation found.height) }
+        ensures stays { IfSome result (λ found. self.new ≡ self.old) }
+    {
+        sets_are_read();
+        match tables.read(state, store.head(number)) {
+            Advance::Go(next) => {
+                let at = Above {
+                    node: number,
+                    next: 0,
+                    state,
+                };
+                self.here = Here::Among(at, next);
+                None
+            }
+            Advance::Redex {
+                equation, height, ..
+            } => Some(Completed { equation, height }),
+        }
     }
 }
