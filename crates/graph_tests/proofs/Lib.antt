@@ -1,1 +1,2 @@
 pub mod AdditionSteps
+pub mod AnsweredStates

@@ -1,1 +1,2 @@
 pub mod AdditionStores
+pub mod KnownStates

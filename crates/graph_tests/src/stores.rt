@@ -61,7 +61,7 @@ fn successor_equation(alloc: Global) -> Result<Equation, NoMemory>
 }
 
 // Both equations.
-fn addition(alloc: Global) -> Result<Rules, NoMemory>
+pub fn addition(alloc: Global) -> Result<Rules, NoMemory>
     ensures { IfOk result (λ rules. rules ≡ addition_rules) }
 {
     let mut rules = Rules::new(alloc, Classes::new(alloc));

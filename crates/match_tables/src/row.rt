@@ -23,6 +23,9 @@ use indexmap::IndexSet;
 use regularity::is_tested;
 use std::alloc::Global;
 
+// The most heads that are faster compared one by one than looked up.
+const SHORT_ROW: usize = 8;
+
 /// What a state wants, and where it leads. A head that no item below the roots names has no move of its own.
 #[derive(Drop)]
 pub struct State {
@@ -44,6 +47,17 @@ impl State {
     fn place_of(&self, head: Head) -> Option<usize>
         ensures { IsPlaceIn self.now.heads.keys head result }
     {
+        if self.heads.len() <= SHORT_ROW {
+            self.scanned(head)
+        } else {
+            self.looked_up(head)
+        }
+    }
+
+    // The same, head by head.
+    fn scanned(&self, head: Head) -> Option<usize>
+        ensures { IsPlaceIn self.now.heads.keys head result }
+    {
         let heads = self.heads.as_slice();
         for place in 0..heads.len() {
             if heads[place] == head {
@@ -51,6 +65,14 @@ impl State {
             }
         }
         None
+    }
+
+    // The same, by the table of the heads.
+    fn looked_up(&self, head: Head) -> Option<usize>
+        ensures { IsPlaceIn self.now.heads.keys head result }
+    {
+        let (place, _) = self.heads.get_full(&head)?;
+        Some(place)
     }
 
     /// Where a head leads, given where a symbol leads that no item below the roots meets.

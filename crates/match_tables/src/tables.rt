@@ -58,7 +58,7 @@ impl Tables {
         0
     }
 
-    /// Where a head leads, in time linear in the length of the state's row.
+    /// Where a head leads, in expected constant time.
     pub fn read(&self, state: usize, head: Head) -> Advance
         requires { IsState self.now state }
         ensures { (rules : RuleList) → AreTablesOf rules self.now → (items : ItemSet)

@@ -46,12 +46,12 @@ head_in (Text t) = head.Text t
 head_in (Same m) = head.Symbol 0
 
 -- how many arguments the node has
-abbrev pub arity_in : Content → ℕ
-arity_in (Symbol s arity first) = arity
-arity_in (Numeral high low) = 0
-arity_in (Atom a) = 0
-arity_in (Text t) = 0
-arity_in (Same m) = 0
+abbrev pub arity_of_content : Content → ℕ
+arity_of_content (Symbol s arity first) = arity
+arity_of_content (Numeral high low) = 0
+arity_of_content (Atom a) = 0
+arity_of_content (Text t) = 0
+arity_of_content (Same m) = 0
 
 -- where the arguments of the node begin
 abbrev pub first_in : Content → ℕ
@@ -62,13 +62,13 @@ first_in (Text t) = 0
 first_in (Same m) = 0
 
 -- the arguments of the node stand in the vector of arguments
-abbrev pub IsWithin : ℕ → Content → Type 0
-IsWithin len c = first_in c + arity_in c ≤ len
+abbrev pub HasArgumentsWithin : ℕ → Content → Type 0
+HasArgumentsWithin len c = first_in c + arity_of_content c ≤ len
 
 -- no way leads back to where it began, and all arguments are there
 pub record AreNodes (args : List ℕ) (nodes : List Content) : Type 0 where
   pub acyclic : IsAcyclic (head.Symbol 0) (shapes_of args nodes)
-  pub within : AllByRecursion (IsWithin (length args)) nodes
+  pub within : AllByRecursion (HasArgumentsWithin (length args)) nodes
 
 -- the trees of the nodes
 abbrev pub trees_of : List ℕ → List Content → List (Numbered heads.Head)

@@ -9,7 +9,7 @@ use Rattle.eq_base.specs.declared.head.Cell as cells
 use Rattle.eq_base.specs.declared.head.Cell.TheVariants.{Head, Var, Class}
 use Rattle.term_graph.specs.declared.content.Content.{Content}
 use Rattle.term_graph.specs.Building.{root_shape, new_shapes}
-use Rattle.term_graph.specs.Contents.{shape_of, IsWithin}
+use Rattle.term_graph.specs.Contents.{shape_of, HasArgumentsWithin}
 
 -- the new nodes and their arguments came behind the others, and the root's content, which is not yet stored,
 -- is this one
@@ -21,9 +21,9 @@ pub record AreBuilt (met : ℕ → ℕ) (right : Tree (PatternCell heads.Head)) 
   pub more : List Content
   pub nodes_are : nodes' ≡ nodes ++ more
   pub hold : map (shape_of args') more ≡ new_shapes met (length nodes) right
-  pub within : AllByRecursion (IsWithin (length args')) more
+  pub within : AllByRecursion (HasArgumentsWithin (length args')) more
   pub root_holds : shape_of args' root ≡ root_shape met (length nodes) right
-  pub root_within : IsWithin (length args') root
+  pub root_within : HasArgumentsWithin (length args') root
 
 -- whether the cell is a head, as a number
 abbrev pub is_head : cells.Cell → ℕ

@@ -7,7 +7,7 @@ ghost use Rattle.eq_base.specs.declared.head.Head.{Head};
 ghost use Rattle.regularity.specs.WellFormed.{HasSymbolRoot};
 ghost use Rattle.term_graph.specs.declared.content.Content.TheVariants.{Symbol};
 ghost use Rattle.graph_laws.specs.Replacing.{MeetsWith};
-ghost use Rattle.term_graph.specs.Contents.{IsOwn, IsWithin, IsChained, AreNodes, arity_in, first_in};
+ghost use Rattle.term_graph.specs.Contents.{IsOwn, HasArgumentsWithin, IsChained, AreNodes, arity_of_content, first_in};
 ghost use Rattle.term_graph.specs.Binding.{node_tree, met_node, IsBound, ArePushed};
 
 use crate::content::{Content, Met, follow};
@@ -52,11 +52,11 @@ pub fn bind(
 // Pushes the nodes of a node's arguments, the first one last.
 fn push_arguments(nodes: &[Content], args: &[usize], content: Content, pending: &mut Vec<usize>)
     requires chained { IsChained nodes.now }
-    requires within { IsWithin (length args.now) content }
+    requires within { HasArgumentsWithin (length args.now) content }
     requires there { AllByRecursion (λ m. m < length nodes.now)
-        (take (arity_in content) (drop (first_in content) args.now)) }
-    requires room { vec_len pending.old + arity_in content ≤ vec_capacity pending.old }
-    ensures pushed { ArePushed nodes.now (take (arity_in content) (drop (first_in content) args.now))
+        (take (arity_of_content content) (drop (first_in content) args.now)) }
+    requires room { vec_len pending.old + arity_of_content content ≤ vec_capacity pending.old }
+    ensures pushed { ArePushed nodes.now (take (arity_of_content content) (drop (first_in content) args.now))
         pending.old.items pending.new.items }
     ensures capacity { vec_capacity pending.new ≡ vec_capacity pending.old }
 {

@@ -2,7 +2,7 @@
 ghost use Rattle.std.specs.Prelude.{◌≡◌, ◌⊎◌, ◌<◌, ℕ, List, take, drop, length};
 ghost use Rattle.eq_base.specs.Cells.{TakesArguments};
 ghost use Rattle.term_graph.specs.Shapes.{own};
-ghost use Rattle.term_graph.specs.Contents.{shape_of, IsOwn, IsNumeral, whole_of, head_in, arity_in, first_in, IsChained, Leads};
+ghost use Rattle.term_graph.specs.Contents.{shape_of, IsOwn, IsNumeral, whole_of, head_in, arity_of_content, first_in, IsChained, Leads};
 
 use eq_base::Head;
 
@@ -39,7 +39,7 @@ impl Content {
     pub fn of(head: Head, arity: u8, first: usize) -> Content
         requires { TakesArguments head arity }
         ensures shape { (args : List ℕ) → shape_of args result ≡ own head (take arity (drop first args)) }
-        ensures arity { arity_in result ≡ arity }
+        ensures arity { arity_of_content result ≡ arity }
         ensures first { (first_in result ≡ first) ⊎ ((first_in result ≡ 0) × (arity ≡ 0)) }
     {
         match head {
@@ -74,7 +74,7 @@ impl Content {
 
     /// The number of arguments.
     pub fn arity(self) -> u8
-        ensures { result ≡ arity_in self }
+        ensures { result ≡ arity_of_content self }
     {
         match self {
             Content::Symbol(_, arity, _) => arity,

@@ -5,7 +5,7 @@ ghost use Rattle.eq_base.specs.Tree.{size};
 ghost use Rattle.term_graph.specs.declared.content.Content.TheVariants.{Symbol};
 ghost use Rattle.term_graph.specs.Graph.{term_at};
 ghost use Rattle.term_graph.specs.Shapes.{references};
-ghost use Rattle.term_graph.specs.Contents.{shape_of, AreNodes, IsWithin};
+ghost use Rattle.term_graph.specs.Contents.{shape_of, AreNodes, HasArgumentsWithin};
 ghost use Rattle.term_graph.specs.Binding.{node_tree};
 ghost use Rattle.term_graph.specs.Sizes.{capped, size_by, AreKnown, IsNextUnknown};
 
@@ -69,7 +69,7 @@ fn count(alloc: Global, nodes: &[Content], args: &[usize], node: usize) -> Resul
 
 // How many nodes a node leads to.
 fn reference_count(args: &[usize], content: Content) -> usize
-    requires { IsWithin (length args.now) content }
+    requires { HasArgumentsWithin (length args.now) content }
     ensures { result ≡ length (references (shape_of args.now content)) }
 {
     match content {
@@ -80,7 +80,7 @@ fn reference_count(args: &[usize], content: Content) -> usize
 
 // One of the nodes to which a node leads.
 fn reference(args: &[usize], content: Content, k: usize) -> usize
-    requires within { IsWithin (length args.now) content }
+    requires within { HasArgumentsWithin (length args.now) content }
     requires there { k < length (references (shape_of args.now content)) }
     ensures { result ≡ slice_index_or (references (shape_of args.now content)) k 0 }
 {
@@ -93,7 +93,7 @@ fn reference(args: &[usize], content: Content, k: usize) -> usize
 // Which of the nodes to which a node leads is the first whose size is unknown, where those before one are
 // known.
 fn next_unknown(args: &[usize], content: Content, sizes: &[u64], from: usize) -> Option<usize>
-    requires within { IsWithin (length args.now) content }
+    requires within { HasArgumentsWithin (length args.now) content }
     requires there { AllByRecursion (λ m. m < length sizes.now) (references (shape_of args.now content)) }
     requires passed { AreKnown sizes.now (take from (references (shape_of args.now content))) }
     ensures { MatchOption result (AreKnown sizes.now (references (shape_of args.now content)))
@@ -109,7 +109,7 @@ fn next_unknown(args: &[usize], content: Content, sizes: &[u64], from: usize) ->
 
 // The size of a node's tree by those of the nodes to which it leads.
 fn size_of_node(args: &[usize], content: Content, sizes: &[u64]) -> u64
-    requires within { IsWithin (length args.now) content }
+    requires within { HasArgumentsWithin (length args.now) content }
     requires there { AllByRecursion (λ m. m < length sizes.now) (references (shape_of args.now content)) }
     ensures { result ≡ size_by sizes.now (shape_of args.now content) }
 {
