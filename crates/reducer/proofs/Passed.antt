@@ -4,10 +4,11 @@ use Rattle.std.specs.Prelude.{reverse, slice_get, slice_index_or}
 use Rattle.std.proofs.Math.ListN.{get_or-map}
 use Rattle.std.proofs.lemmas.List.{reverse-append, length-reverse}
 use Rattle.std.proofs.lemmas.Option.{get_or_from_slice_get, slice_get-get_or}
-use Rattle.eq_base.specs.Tree.{Tree, Forest, node, empty, grow, count, head_of, map_heads, map_all_heads, subtree_at, subtree_in}
+use Rattle.eq_base.specs.Tree.{Tree, Forest, node, empty, grow, count, head_of, arity_of, map_heads, map_all_heads, subtree_at, subtree_in}
 use Rattle.eq_base.specs.Storing.{join}
 use Rattle.eq_base.specs.declared.head.Head.{Head}
 use Rattle.eq_base.specs.declared.head.Head.TheVariants.{Symbol}
+use Rattle.eq_base.proofs.Trees.{count-map_all_heads}
 use Rattle.eq_base.proofs.Heads.{some_same}
 use Rattle.graph_laws.specs.Numbered.{Numbered, plain, root_number}
 use Rattle.term_graph.specs.Graph.{Graph, numbered_at, term_at, IsNumberedArgument}
@@ -27,6 +28,10 @@ module _ {A : Type 0} where
   pub count-one_more : (ts : Forest A) (t : Tree A) → count (join ts (grow t empty)) ≡ suc (count ts)
   count-one_more empty t = refl
   count-one_more (grow u ts) t = ap suc (count-one_more ts t)
+
+  count-both : (ts us : Forest A) → count (join ts us) ≡ count ts + count us
+  count-both empty us = omega arith
+  count-both (grow t ts) us = omega (arith, count-both ts us)
 
   pub next_argument : (ts : Forest A) (t : Tree A) (us : Forest A) → subtree_in (join ts (grow t us)) (count ts) [] ≡ Some t
   next_argument empty t us = refl
@@ -81,3 +86,19 @@ term_here g n t is =
 -- its head is that of the tree
 pub head_here : (g : Graph) (n : ℕ) (h : Head) (l : Head × ℕ) (args : Forest (Head × ℕ)) → IsNode g.trees n (node l args) → h ≡ head_of (term_at g n) → h ≡ l.0
 head_here g n h l args is same = same ∙ ap head_of (term_here g n (node l args) is)
+
+-- how many arguments a node has
+pub arity_here : (g : Graph) (n passed : ℕ) (l : Head × ℕ) (before behind : Forest (Head × ℕ)) → IsAmong g.trees n passed l before behind → arity_of (term_at g n) ≡ passed + count behind
+arity_here g n passed l before behind among =
+    let is : arity_of (term_at g n) ≡ arity_of (plain (node l (join before behind))) = ap arity_of (term_here g n (node l (join before behind)) among.is_node) in
+    omega (arith, is, count-map_all_heads (λ l. l.0) (join before behind), count-both before behind, among.many)
+
+-- where all arguments are passed, none is behind
+pub none_behind : (g : Graph) (n passed : ℕ) (l : Head × ℕ) (before behind : Forest (Head × ℕ)) → IsAmong g.trees n passed l before behind → passed ≡ arity_of (term_at g n) → behind ≡ empty
+none_behind g n passed l before empty among all = refl
+none_behind g n passed l before (grow t behind) among all = absurd (omega (arith, all, arity_here g n passed l before (grow t behind) among))
+
+-- where not all arguments are passed, one is next
+pub some_behind : (g : Graph) (n passed : ℕ) (l : Head × ℕ) (before : Forest (Head × ℕ)) (P : Forest (Head × ℕ) → Type 0) → passed < arity_of (term_at g n) → ((t : Numbered Head) (behind : Forest (Head × ℕ)) → P (grow t behind)) → (behind : Forest (Head × ℕ)) → IsAmong g.trees n passed l before behind → P behind
+some_behind g n passed l before P lt each empty among = absurd (omega (arith, lt, arity_here g n passed l before empty among))
+some_behind g n passed l before P lt each (grow t behind) among = each t behind

@@ -3,7 +3,7 @@
 // Two stacks are the way down from the root. The nodes of the outer one are settled: they have no demanded redex,
 // and their arguments are normalised from left to right. Those of the inner one are the way of a reading, in
 // which all left sides begun on it are read at once.
-ghost use Rattle.std.specs.Prelude.{◌≡◌, ℕ, ◌<◌, [], List, length, None, OnOk, IfSome};
+ghost use Rattle.std.specs.Prelude.{◌≡◌, ℕ, ◌<◌, ◌≤◌, [], List, length, None, OnOk, IfSome};
 ghost use Rattle.eq_base.specs.Tree.{Forest, arity_of, node, empty, grow};
 ghost use Rattle.eq_base.specs.ReadHead.{ReadHead};
 ghost use Rattle.eq_base.specs.RuleList.{RuleList};
@@ -19,12 +19,13 @@ ghost use Rattle.machine_laws.specs.Places.{arriving, reading, among, turning};
 ghost use Rattle.graph_laws.specs.Numbered.{Numbered, plain};
 ghost use Rattle.term_graph.specs.Graph.{term_at};
 ghost use Rattle.reducer.specs.Standing.{IsArriving, IsReading, IsReadAmong, IsTurning};
+ghost use Rattle.reducer.specs.Marking.{MarksPassed};
 ghost use Rattle.reducer.specs.Turning.{LeadsOn};
 ghost use Rattle.eq_base.specs.declared.head.Head.{Head};
 
 use eq_base::NoMemory;
 use machine_laws::laws::sets_are_read;
-use match_tables::{Advance, Tables};
+use match_tables::{Advance, Tables, Want};
 use std::alloc::Global;
 use term_graph::Store;
 
@@ -240,6 +241,59 @@ impl Machine {
             Advance::Redex {
                 equation, height, ..
             } => Some(Completed { equation, height }),
+        }
+    }
+
+    // Goes on among the arguments of a node that is read.
+    fn go_among(
+        &mut self,
+        store: &Store,
+        tables: &Tables,
+        at: Above,
+        state: usize,
+    ) -> Result<(), NoMemory>
+        requires node { at.node < length store.now.trees }
+        requires passed { at.next ≤ arity_of (term_at store.now at.node) }
+        requires state { IsState tables.now state }
+        ensures { OnOk result ((table : Table) → HasOneNumberEach table → (rules : RuleList)
+            → AreLive table rules → AreTablesOf rules tables.now
+            → (outer inner : List (Frame (Head × ℕ))) (l : Head × ℕ) (before behind : Forest (Head × ℕ))
+            (items : ItemSet)
+            → IsReadAmong store.now.trees tables.now.sets self.old at state outer inner l before behind items
+            → LeadsOn (read_system table rules) table tables.now.sets store.now.trees self.new
+            (among outer inner l before behind items)) }
+    {
+        sets_are_read();
+        if at.next == store.arity(at.node) {
+            self.go_back(at, state);
+            return Ok(());
+        }
+        match tables.wants(state) {
+            Want::Read => return self.go_into(store, at, state),
+            Want::Skip => self.skip(tables, at, state),
+            Want::Nothing => self.end_reading(),
+        }
+        Ok(())
+    }
+
+    // Goes on among the arguments of a settled node: into the next one, or behind the node, which is normal.
+    fn turn(&mut self, store: &mut Store, number: usize, passed: u8) -> Result<(), NoMemory>
+        requires node { number < length store.old.trees }
+        requires passed { passed ≤ arity_of (term_at store.old number) }
+        ensures turns { OnOk result ((system : System ReadHead) (table : Table) (sets : List ItemSet)
+            (outer : List (Frame (Head × ℕ))) (l : Head × ℕ) (before behind : Forest (Head × ℕ))
+            → IsTurning store.old.trees self.old number passed outer l before behind
+            → LeadsOn system table sets store.old.trees self.new (turning outer l before behind)) }
+        ensures trees { store.new.trees ≡ store.old.trees }
+        ensures spare { store.new.spare ≡ store.old.spare }
+        ensures marks { MarksPassed store.old store.new number passed }
+    {
+        if passed == store.arity(number) {
+            store.mark(number);
+            self.leave(number);
+            Ok(())
+        } else {
+            self.turn_down(store, number, passed)
         }
     }
 }
