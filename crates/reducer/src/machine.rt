@@ -19,7 +19,7 @@ ghost use Rattle.machine_laws.specs.Places.{arriving, reading, among, turning};
 ghost use Rattle.graph_laws.specs.Numbered.{Numbered, plain};
 ghost use Rattle.term_graph.specs.Graph.{term_at};
 ghost use Rattle.reducer.specs.Standing.{IsArriving, IsReading, IsReadAmong, IsTurning};
-ghost use Rattle.reducer.specs.Marking.{MarksPassed};
+ghost use Rattle.reducer.specs.Marking.{AreMarkedNormal, MarksPassed};
 ghost use Rattle.reducer.specs.Turning.{LeadsOn};
 ghost use Rattle.eq_base.specs.declared.head.Head.{Head};
 
@@ -294,6 +294,21 @@ impl Machine {
             Ok(())
         } else {
             self.turn_down(store, number, passed)
+        }
+    }
+
+    // Comes to a node that is to be normalised: a marked one is normal, and the others are read.
+    fn arrive(&mut self, store: &Store, tables: &Tables, number: usize)
+        requires { number < length store.now.trees }
+        ensures { (rules : RuleList) → AreTablesOf rules tables.now → (system : System ReadHead)
+            (table : Table) → AreMarkedNormal system table store.now → (outer : List (Frame (Head × ℕ)))
+            (t : Numbered Head) → IsArriving store.now.trees self.old number outer t
+            → LeadsOn system table tables.now.sets store.now.trees self.new (arriving outer t) }
+    {
+        if store.is_marked(number) {
+            self.leave(number);
+        } else {
+            self.begin(tables, number);
         }
     }
 }
