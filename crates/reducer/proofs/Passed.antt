@@ -1,6 +1,6 @@
 -- Arguments of a node before a place and behind it, and the nodes on a stack.
 use Rattle.std.proofs.Common.{◌≡◌, ℕ, suc, ◌+◌, ◌-◌, ◌<◌, List, [], ◌∷◌, ◌++◌, Some, length, take, refl, arith, sym, ◌∙◌, ap, subst}
-use Rattle.std.specs.Prelude.{reverse, slice_get, slice_index_or}
+use Rattle.std.specs.Prelude.{reverse, slice_get}
 use Rattle.std.proofs.Math.ListN.{get_or-map}
 use Rattle.std.proofs.lemmas.List.{reverse-append, length-reverse}
 use Rattle.std.proofs.lemmas.Option.{get_or_from_slice_get, slice_get-get_or}
@@ -12,7 +12,7 @@ use Rattle.eq_base.proofs.Trees.{count-map_all_heads}
 use Rattle.eq_base.proofs.Heads.{some_same}
 use Rattle.graph_laws.specs.Numbered.{Numbered, plain, root_number}
 use Rattle.term_graph.specs.Graph.{Graph, numbered_at, term_at, IsNumberedArgument}
-use Rattle.machine_laws.specs.Frames.{Frame, around}
+use Rattle.machine_laws.specs.Frames.{Frame}
 use Rattle.reducer.specs.Standing.{IsNode, IsAmong, AreAbove}
 use Rattle.reducer.specs.declared.machine.Above.{Above}
 
@@ -43,8 +43,8 @@ argument_node g n passed m l before behind t among is =
     let leaf : Numbered Head = node (Symbol 0, 0) empty in
     let whole : numbered_at g n ≡ node l (join before (grow t behind)) = get_or_from_slice_get g.trees n (node l (join before (grow t behind))) leaf among.is_node.stands in
     let one : subtree_at (numbered_at g n) (passed ∷ []) ≡ Some t =
-        subst (λ z. subtree_at z (passed ∷ []) ≡ Some t) (sym whole)
-        (subst (λ k. subtree_in (join before (grow t behind)) k [] ≡ Some t) among.many (next_argument before t behind)) in
+    subst (λ z. subtree_at z (passed ∷ []) ≡ Some t) (sym whole)
+    (subst (λ k. subtree_in (join before (grow t behind)) k [] ≡ Some t) among.many (next_argument before t behind)) in
     let same : numbered_at g m ≡ t = some_same (numbered_at g m) t (sym is.stands ∙ one) in
     record {
       own = subst (λ z. root_number z ≡ m) same is.followed.own;

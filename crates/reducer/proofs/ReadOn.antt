@@ -16,7 +16,7 @@ use Rattle.match_tables.specs.Answering.{StandsFor}
 use Rattle.machine_laws.specs.Frames.{Frame, around, plug}
 use Rattle.machine_laws.specs.ReadTrees.{with_heads}
 use Rattle.machine_laws.specs.Places.{Place, reading, among, turning, Turn, turn_over, turn_into, turn_back, turn_first, turn_skip, turn_read}
-use Rattle.reducer.specs.Standing.{AreAbove, IsNode, IsAmong, IsReading, IsReadAmong}
+use Rattle.reducer.specs.Standing.{AreAbove, IsNode, IsReading, IsReadAmong}
 use Rattle.reducer.specs.Turning.{LeadsOn, read_label, read_forest, read_frames, read_place}
 use Rattle.reducer.specs.declared.machine.Above.{Above}
 use Rattle.reducer.specs.declared.machine.Here.TheVariants.{Reading, Among, Turning}
@@ -39,12 +39,16 @@ module _ (system : System ReadHead) (table : Table) (sets : List ItemSet) where
   turns_to trees new p number outer (node m args) turn is above here alone =
       record {
         next = turning outer m empty args;
-        stands = (number, 0, record {
-          here = here;
-          is_among = record { is_node = is; many = refl };
-          above = above;
-          alone = alone;
-        });
+        stands = (
+          number,
+          0,
+          record {
+            here = here;
+            is_among = record { is_node = is; many = refl };
+            above = above;
+            alone = alone;
+          },
+        );
         turn = turn m args refl;
       }
 
@@ -58,8 +62,8 @@ module _ (system : System ReadHead) (table : Table) (sets : List ItemSet) where
       let whole : Numbered Head = plug inner (node l (join before behind)) in
       turns_to trees new (among outer inner l before behind items) old.begun outer whole
       (λ m args e. turn_over wants
-        (ap (λ z. plug (read_frames table inner) (node (read_label table l) z)) (sym (map-join (read_label table) before behind))
-        ∙ (sym (read-plug table inner (node l (join before behind))) ∙ ap (λ z. with_heads (read_head table) z) e)))
+      (ap (λ z. plug (read_frames table inner) (node (read_label table l) z)) (sym (map-join (read_label table) before behind))
+      ∙ (sym (read-plug table inner (node l (join before behind))) ∙ ap (λ z. with_heads (read_head table) z) e)))
       is.stacks.begun (subst (λ z. AreAbove trees (reverse z) outer whole) (sym same) is.stacks.above) here alone
 
   pub goes_into : (g : Graph) (old new : Machine) (at : Above) (state m : ℕ)
@@ -73,19 +77,23 @@ module _ (system : System ReadHead) (table : Table) (sets : List ItemSet) where
       let a : Above = record { node = at.node; next = at.next + 1; state = at.state } in
       let f : Frame (Head × ℕ) = record { head = l; before = before; behind = behind } in
       let within : AreAbove g.trees (a ∷ reverse old.inner.items) (f ∷ inner) t =
-          (one_passed g.trees at.node at.next l before behind t is.is_among, is.stacks.within) in
+      (one_passed g.trees at.node at.next l before behind t is.is_among, is.stacks.within) in
       record {
         next = reading outer (f ∷ inner) t items;
-        stands = (m, state, record {
-          here = here;
-          is_node = argument_node g at.node at.next m l before behind t is.is_among argument;
-          set = is.set;
-          stacks = record {
-            within = subst (λ z. AreAbove g.trees z (f ∷ inner) t) (sym (ap reverse pushes ∙ pushed old.inner.items a)) within;
-            above = subst (λ z. AreAbove g.trees (reverse z) outer (plug (f ∷ inner) t)) (sym same) is.stacks.above;
-            begun = subst (λ z. IsNode g.trees z (plug (f ∷ inner) t)) (sym begun) is.stacks.begun;
-          };
-        });
+        stands = (
+          m,
+          state,
+          record {
+            here = here;
+            is_node = argument_node g at.node at.next m l before behind t is.is_among argument;
+            set = is.set;
+            stacks = record {
+              within = subst (λ z. AreAbove g.trees z (f ∷ inner) t) (sym (ap reverse pushes ∙ pushed old.inner.items a)) within;
+              above = subst (λ z. AreAbove g.trees (reverse z) outer (plug (f ∷ inner) t)) (sym same) is.stacks.above;
+              begun = subst (λ z. IsNode g.trees z (plug (f ∷ inner) t)) (sym begun) is.stacks.begun;
+            };
+          },
+        );
         turn = turn_into wants;
       }
 
@@ -102,17 +110,21 @@ module _ (system : System ReadHead) (table : Table) (sets : List ItemSet) where
       let e : join f.before (grow t f.behind) ≡ join passed f.behind = sym (join-join f.before (grow t empty) f.behind) in
       record {
         next = among outer inner f.head passed f.behind items;
-        stands = (a, state, record {
-          here = here;
-          is_among = within.0;
-          set = set;
-          stacks = record {
-            within = subst (λ z. AreAbove trees z inner (node f.head (join passed f.behind))) same
-                (subst (λ z. AreAbove trees rest inner (node f.head z)) e within.1);
-            above = subst (λ z. AreAbove trees (reverse new.outer.items) outer (plug inner (node f.head z))) e above;
-            begun = subst (λ z. IsNode trees new.begun (plug inner (node f.head z))) e begun;
-          };
-        });
+        stands = (
+          a,
+          state,
+          record {
+            here = here;
+            is_among = within.0;
+            set = set;
+            stacks = record {
+              within = subst (λ z. AreAbove trees z inner (node f.head (join passed f.behind))) same
+                  (subst (λ z. AreAbove trees rest inner (node f.head z)) e within.1);
+              above = subst (λ z. AreAbove trees (reverse new.outer.items) outer (plug inner (node f.head z))) e above;
+              begun = subst (λ z. IsNode trees new.begun (plug inner (node f.head z))) e begun;
+            };
+          },
+        );
         turn = subst (λ z. Turn system (read_place table (among outer (f ∷ inner) l before empty items)) (among (read_frames table outer) (read_frames table inner) (read_label table f.head) z (read_forest table f.behind) items))
             (sym (map-join (read_label table) f.before (grow t empty))) turn_back;
       }
@@ -141,11 +153,11 @@ module _ (system : System ReadHead) (table : Table) (sets : List ItemSet) where
       let bare : node l (join before empty) ≡ node l before = ap (node l) (join-empty before) in
       turns_to trees new (among outer inner l before empty items) at.node outer (node l before)
       (λ m args e. subst (λ z. Turn system (read_place table (among outer inner l before empty items)) (turning_at outer z)) e
-        (subst (λ z. Turn system (read_place table (among outer z l before empty items)) (turning_at outer (node l before))) (sym no) turn_first))
+      (subst (λ z. Turn system (read_place table (among outer z l before empty items)) (turning_at outer (node l before))) (sym no) turn_first))
       (subst (IsNode trees at.node) bare is.is_among.is_node)
       (subst (AreAbove trees (reverse new.outer.items) outer) bare
-        (subst (λ z. AreAbove trees (reverse new.outer.items) outer (plug z (node l (join before empty)))) no
-        (subst (λ z. AreAbove trees (reverse z) outer (plug inner (node l (join before empty)))) (sym same) is.stacks.above)))
+      (subst (λ z. AreAbove trees (reverse new.outer.items) outer (plug z (node l (join before empty)))) no
+      (subst (λ z. AreAbove trees (reverse z) outer (plug inner (node l (join before empty)))) (sym same) is.stacks.above)))
       here alone
     where
       turning_at : List (Frame (Head × ℕ)) → Numbered Head → Place ReadHead
@@ -163,16 +175,20 @@ module _ (system : System ReadHead) (table : Table) (sets : List ItemSet) where
       let e : join before (grow t behind) ≡ join passed behind = sym (join-join before (grow t empty) behind) in
       record {
         next = among outer inner l passed behind next;
-        stands = (record { node = at.node; next = at.next + 1; state = at.state }, after, record {
-          here = here;
-          is_among = one_passed trees at.node at.next l before behind t is.is_among;
-          set = set;
-          stacks = record {
-            within = subst (λ z. AreAbove trees (reverse z) inner (node l (join passed behind))) (sym ins) (subst (λ z. AreAbove trees (reverse old.inner.items) inner (node l z)) e is.stacks.within);
-            above = subst (λ z. AreAbove trees (reverse z) outer (plug inner (node l (join passed behind)))) (sym outs) (subst (λ z. AreAbove trees (reverse old.outer.items) outer (plug inner (node l z))) e is.stacks.above);
-            begun = subst (λ z. IsNode trees z (plug inner (node l (join passed behind)))) (sym begun) (subst (λ z. IsNode trees old.begun (plug inner (node l z))) e is.stacks.begun);
-          };
-        });
+        stands = (
+          record { node = at.node; next = at.next + 1; state = at.state },
+          after,
+          record {
+            here = here;
+            is_among = one_passed trees at.node at.next l before behind t is.is_among;
+            set = set;
+            stacks = record {
+              within = subst (λ z. AreAbove trees (reverse z) inner (node l (join passed behind))) (sym ins) (subst (λ z. AreAbove trees (reverse old.inner.items) inner (node l z)) e is.stacks.within);
+              above = subst (λ z. AreAbove trees (reverse z) outer (plug inner (node l (join passed behind)))) (sym outs) (subst (λ z. AreAbove trees (reverse old.outer.items) outer (plug inner (node l z))) e is.stacks.above);
+              begun = subst (λ z. IsNode trees z (plug inner (node l (join passed behind)))) (sym begun) (subst (λ z. IsNode trees old.begun (plug inner (node l z))) e is.stacks.begun);
+            };
+          },
+        );
         turn = subst (λ z. Turn system (read_place table (among outer inner l before (grow t behind) items)) (among (read_frames table outer) (read_frames table inner) (read_label table l) z (read_forest table behind) next))
             (sym (map-join (read_label table) before (grow t empty))) (turn_skip wants skips);
       }
@@ -188,15 +204,19 @@ module _ (system : System ReadHead) (table : Table) (sets : List ItemSet) where
   reads_on trees old new number state after outer inner l args items next is reads none set outs ins begun here =
       record {
         next = among outer inner l empty args next;
-        stands = (record { node = number; next = 0; state = state }, after, record {
-          here = here;
-          is_among = record { is_node = is.is_node; many = refl };
-          set = set;
-          stacks = record {
-            within = subst (λ z. AreAbove trees (reverse z) inner (node l args)) (sym ins) is.stacks.within;
-            above = subst (λ z. AreAbove trees (reverse z) outer (plug inner (node l args))) (sym outs) is.stacks.above;
-            begun = subst (λ z. IsNode trees z (plug inner (node l args))) (sym begun) is.stacks.begun;
-          };
-        });
+        stands = (
+          record { node = number; next = 0; state = state },
+          after,
+          record {
+            here = here;
+            is_among = record { is_node = is.is_node; many = refl };
+            set = set;
+            stacks = record {
+              within = subst (λ z. AreAbove trees (reverse z) inner (node l args)) (sym ins) is.stacks.within;
+              above = subst (λ z. AreAbove trees (reverse z) outer (plug inner (node l args))) (sym outs) is.stacks.above;
+              begun = subst (λ z. IsNode trees z (plug inner (node l args))) (sym begun) is.stacks.begun;
+            };
+          },
+        );
         turn = turn_read reads none;
       }

@@ -12,10 +12,10 @@ use Rattle.machine_laws.specs.ReadTrees.{with_heads}
 use Rattle.match_laws.specs.Items.{ItemSet}
 use Rattle.graph_laws.specs.Numbered.{Numbered, plain}
 use Rattle.term_graph.specs.Graph.{Graph, IsNumberedArgument}
-use Rattle.machine_laws.specs.Frames.{Frame, around}
+use Rattle.machine_laws.specs.Frames.{Frame}
 use Rattle.machine_laws.specs.Places.{Place, arriving, turning, ended, Turn, turn_down, turn_up, turn_end, turn_marked, turn_marked_root}
-use Rattle.reducer.specs.Standing.{AreAbove, IsNode, IsAmong, IsArriving, IsTurning}
-use Rattle.reducer.specs.Turning.{LeadsOn, read_label, read_forest, read_frame, read_frames, read_place}
+use Rattle.reducer.specs.Standing.{AreAbove, IsNode, IsArriving, IsTurning}
+use Rattle.reducer.specs.Turning.{LeadsOn, read_label, read_forest, read_frames, read_place}
 use Rattle.reducer.specs.declared.machine.Above.{Above}
 use Rattle.reducer.specs.declared.machine.Here.TheVariants.{Arriving, Turning, Ended}
 use Rattle.reducer.specs.declared.machine.Machine.{Machine}
@@ -32,15 +32,18 @@ module _ (system : System ReadHead) (table : Table) (sets : List ItemSet) where
       let a : Above = record { node = number; next = passed + 1; state = state } in
       let f : Frame (Head × ℕ) = record { head = l; before = before; behind = behind } in
       let above : AreAbove g.trees (a ∷ reverse old.outer.items) (f ∷ outer) t =
-          (one_passed g.trees number passed l before behind t turns.is_among, turns.above) in
+      (one_passed g.trees number passed l before behind t turns.is_among, turns.above) in
       record {
         next = arriving (f ∷ outer) t;
-        stands = (m, record {
-          here = here;
-          is_node = argument_node g number passed m l before behind t turns.is_among is;
-          above = subst (λ z. AreAbove g.trees z (f ∷ outer) t) (sym (ap reverse items ∙ pushed old.outer.items a)) above;
-          alone = same ∙ turns.alone;
-        });
+        stands = (
+          m,
+          record {
+            here = here;
+            is_node = argument_node g number passed m l before behind t turns.is_among is;
+            above = subst (λ z. AreAbove g.trees z (f ∷ outer) t) (sym (ap reverse items ∙ pushed old.outer.items a)) above;
+            alone = same ∙ turns.alone;
+          },
+        );
         turn = turn_down;
       }
 
@@ -56,10 +59,13 @@ module _ (system : System ReadHead) (table : Table) (sets : List ItemSet) where
       let no : outer ≡ [] = no_frames trees outer (node l (join before empty)) old.outer.items turns.above none in
       record {
         next = ended (node l before);
-        stands = (number, record {
-          here = here;
-          is_node = subst (IsNode trees number) (bare l before) turns.is_among.is_node;
-        });
+        stands = (
+          number,
+          record {
+            here = here;
+            is_node = subst (IsNode trees number) (bare l before) turns.is_among.is_node;
+          },
+        );
         turn = subst (λ z. Turn system (read_place table (turning z l before empty)) (read_place table (ended (node l before)))) (sym no) turn_end;
       }
 
@@ -76,13 +82,17 @@ module _ (system : System ReadHead) (table : Table) (sets : List ItemSet) where
       let passed : Forest (Head × ℕ) = join f.before (grow t empty) in
       record {
         next = turning outer f.head passed f.behind;
-        stands = (a.node, a.next, record {
-          here = here;
-          is_among = above.0;
-          above = subst (λ z. AreAbove trees z outer (node f.head (join passed f.behind))) same
-              (subst (λ z. AreAbove trees rest outer (node f.head z)) (sym (join-join f.before (grow t empty) f.behind)) above.1);
-          alone = alone;
-        });
+        stands = (
+          a.node,
+          a.next,
+          record {
+            here = here;
+            is_among = above.0;
+            above = subst (λ z. AreAbove trees z outer (node f.head (join passed f.behind))) same
+                (subst (λ z. AreAbove trees rest outer (node f.head z)) (sym (join-join f.before (grow t empty) f.behind)) above.1);
+            alone = alone;
+          },
+        );
         turn = subst (λ z. Turn system (read_place table (p (f ∷ outer))) (turning (read_frames table outer) (read_label table f.head) z (read_forest table f.behind)))
             (sym (map-join (read_label table) f.before (grow t empty))) (turn f outer);
       }

@@ -9,7 +9,6 @@ use Rattle.graph_laws.specs.Numbered.{Numbered, root_number}
 use Rattle.machine_laws.specs.Frames.{Frame, around, plug}
 use Rattle.machine_laws.specs.Places.{Place, arriving, reading, among, turning, ended}
 use Rattle.reducer.specs.declared.machine.Above.{Above}
-use Rattle.reducer.specs.declared.machine.Here.{Here}
 use Rattle.reducer.specs.declared.machine.Here.TheVariants.{Arriving, Reading, Among, Turning, Ended}
 use Rattle.reducer.specs.declared.machine.Machine.{Machine}
 
@@ -24,8 +23,8 @@ module _ (trees : List (Numbered Head)) where
     pub is_node : IsNode n (node l (join before behind))
     pub many : count before ≡ passed
 
-  -- the nodes on a stack, the last one first, stand for the frames around the tree; the next argument of each is
-  -- the one behind the tree
+  -- the nodes on a stack, the last one first, stand for the frames around the tree; the next argument of each
+  -- is the one behind the tree
   abbrev pub AreAbove : List Above → List (Frame (Head × ℕ)) → Numbered Head → Type 0
   AreAbove [] [] t = Unit {0}
   AreAbove [] (f ∷ frames) t = ⊥

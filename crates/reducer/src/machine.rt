@@ -1,8 +1,8 @@
 // The machine: it finds the next redex, and goes on from where it stood.
 //
-// Two stacks are the way down from the root. The nodes of the outer one are settled: they have no demanded redex,
-// and their arguments are normalised from left to right. Those of the inner one are the way of a reading, in
-// which all left sides begun on it are read at once.
+// Two stacks are the way down from the root. The nodes of the outer one are settled: they have no demanded
+// redex, and their arguments are normalised from left to right. Those of the inner one are the way of a reading,
+// in which all left sides begun on it are read at once.
 ghost use Rattle.std.specs.Prelude.{◌≡◌, ℕ, ◌<◌, ◌≤◌, [], List, length, None, OnOk, IfSome};
 ghost use Rattle.eq_base.specs.Tree.{Forest, arity_of, node, empty, grow};
 ghost use Rattle.eq_base.specs.ReadHead.{ReadHead};
@@ -111,7 +111,8 @@ impl Machine {
             → LeadsOn system table sets trees self.new (turning outer l before empty) }
         ensures arrived { (system : System ReadHead) (table : Table) (sets : List ItemSet)
             (trees : List (Numbered Head)) (outer : List (Frame (Head × ℕ))) (t : Numbered Head)
-            → IsArriving trees self.old number outer t → IsNormal system (plain (with_heads (read_head table) t))
+            → IsArriving trees self.old number outer t
+            → IsNormal system (plain (with_heads (read_head table) t))
             → LeadsOn system table sets trees self.new (arriving outer t) }
     {
         self.here = match self.outer.pop() {
@@ -239,7 +240,9 @@ impl Machine {
                 None
             }
             Advance::Redex {
-                equation, height, ..
+                equation,
+                height,
+                ..
             } => Some(Completed { equation, height }),
         }
     }

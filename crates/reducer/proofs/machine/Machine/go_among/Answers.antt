@@ -23,10 +23,10 @@ returns-in-Read c =
     let lt : c.args.at.next < arity_of (term_at c.args.store.now c.args.at.node) = omega (arith, c.if-at-arity.false, c.arity.ensures.value, c.requires.passed) in
     on_ok_weaker c.go_into.result
     (λ leads table one rules live tabled outer inner l before behind items is.
-      some_behind c.args.store.now c.args.at.node c.args.at.next l before
-      (λ z. IsReadAmong c.args.store.now.trees c.args.tables.now.sets c.args.self.now c.args.at c.args.state outer inner l before z items → LeadsOn (read_system table rules) table c.args.tables.now.sets c.args.store.now.trees c.go_into.new.self (among outer inner l before z items))
-      lt (λ t rest here. leads (read_system table rules) table c.args.tables.now.sets outer inner l before rest t items here
-        ((c.sets_are_read.ensures.wants_read table one rules live items).0 (subst (IsWanted rules items) c.in-Read.is (c.wants.ensures rules tabled items here.set)))) behind is.is_among is)
+    some_behind c.args.store.now c.args.at.node c.args.at.next l before
+    (λ z. IsReadAmong c.args.store.now.trees c.args.tables.now.sets c.args.self.now c.args.at c.args.state outer inner l before z items → LeadsOn (read_system table rules) table c.args.tables.now.sets c.args.store.now.trees c.go_into.new.self (among outer inner l before z items))
+    lt (λ t rest here. leads (read_system table rules) table c.args.tables.now.sets outer inner l before rest t items here
+    ((c.sets_are_read.ensures.wants_read table one rules live items).0 (subst (IsWanted rules items) c.in-Read.is (c.wants.ensures rules tabled items here.set)))) behind is.is_among is)
     c.go_into.ensures
 
 pub returns-in-Skip : goal.returns-in-Skip

@@ -21,7 +21,7 @@ returns-else-passed-arity-clause-turns c =
     let lt : c.args.passed < arity_of (term_at c.args.store.now c.args.number) = omega (arith, c.if-passed-arity.false, c.arity.ensures.value, c.requires.passed) in
     on_ok_weaker c.turn_down.result
     (λ leads system table sets outer l before behind turns.
-      some_behind c.args.store.now c.args.number c.args.passed l before
-      (λ z. IsTurning c.args.store.now.trees c.args.self.now c.args.number c.args.passed outer l before z → LeadsOn system table sets c.args.store.now.trees c.turn_down.new.self (turning outer l before z))
-      lt (λ t rest is. leads system table sets outer l before rest t is) behind turns.is_among turns)
+    some_behind c.args.store.now c.args.number c.args.passed l before
+    (λ z. IsTurning c.args.store.now.trees c.args.self.now c.args.number c.args.passed outer l before z → LeadsOn system table sets c.args.store.now.trees c.turn_down.new.self (turning outer l before z))
+    lt (λ t rest is. leads system table sets outer l before rest t is) behind turns.is_among turns)
     c.turn_down.ensures
