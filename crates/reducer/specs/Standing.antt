@@ -30,7 +30,8 @@ module _ (trees : List (Numbered Head)) where
   AreAbove [] (f ∷ frames) t = ⊥
   AreAbove (a ∷ above) [] t = ⊥
   AreAbove (a ∷ above) (f ∷ frames) t =
-      IsAmong a.node a.next f.head (join f.before (grow t empty)) f.behind × AreAbove above frames (around f t)
+      IsAmong a.node a.next f.head (join f.before (grow t empty)) f.behind
+      × AreAbove above frames (around f t)
 
   -- at a node that is to be normalised
   pub record IsArriving (machine : Machine) (number : ℕ) (outer : List (Frame (Head × ℕ)))

@@ -43,7 +43,8 @@ read_place table (among outer inner l before behind items) =
     among (read_frames table outer) (read_frames table inner) (read_label table l) (read_forest table before)
     (read_forest table behind) items
 read_place table (turning outer l before behind) =
-    turning (read_frames table outer) (read_label table l) (read_forest table before) (read_forest table behind)
+    turning (read_frames table outer) (read_label table l) (read_forest table before)
+    (read_forest table behind)
 read_place table (ended t) = ended (with_heads (read_head table) t)
 
 -- the machine stands now for a place to which a turn leads from this one

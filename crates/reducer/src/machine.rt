@@ -1,8 +1,8 @@
 // The machine: it finds the next redex, and goes on from where it stood.
 //
 // Two stacks are the way down from the root. The nodes of the outer one are settled: they have no demanded
-// redex, and their arguments are normalised from left to right. Those of the inner one are the way of a reading,
-// in which all left sides begun on it are read at once.
+// redex, and their arguments are normalised from left to right. Those of the inner one are the way of a
+// reading, in which all left sides begun on it are read at once.
 ghost use Rattle.std.specs.Prelude.{◌≡◌, ℕ, ◌<◌, ◌≤◌, [], List, length, None, OnOk, IfSome};
 ghost use Rattle.eq_base.specs.Tree.{Forest, arity_of, node, empty, grow};
 ghost use Rattle.eq_base.specs.ReadHead.{ReadHead};
