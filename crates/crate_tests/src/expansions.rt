@@ -50,8 +50,8 @@ const DOUBLING: &str = "Symbols a: 0; p: 2; f: 1. For all c, d, e, g, h, i, j, k
 ";
 
 /// The expansion of a file, or its fault.
-fn expansion(alloc: Global, text: &str) -> Result<Rules, FileError> {
-    let definitions = read_definitions(alloc, text.as_bytes(), Syntax::Standmath)?;
+fn expansion(alloc: Global, text: &[u8]) -> Result<Rules, FileError> {
+    let definitions = read_definitions(alloc, text, Syntax::Standmath)?;
     expand(alloc, &definitions)
 }
 
@@ -62,7 +62,7 @@ fn told(
     text: &str,
     number: usize,
 ) -> Result<(usize, u32, u32, usize, usize), FileError> {
-    let rules = expansion(alloc, text)?;
+    let rules = expansion(alloc, text.as_bytes())?;
     if number >= rules.len() {
         return Ok((rules.len(), 0, 0, 0, 0));
     }

@@ -43,12 +43,16 @@ fn end_of(
     let Ok(regular) = Regular::admit(alloc, rules) else {
         return Ok(None);
     };
-    let (end, steps) = match plain_run(alloc, &regular, symbols, term, budget)? {
-        PlainEnd::Normal(end, steps) => (end, Some(steps)),
-        PlainEnd::Spent(end) => (end, None),
-    };
-    let print = printed(alloc, syntax, symbols, &end)?;
-    Ok(Some((print, steps)))
+    match plain_run(alloc, &regular, symbols, term, budget)? {
+        PlainEnd::Normal(end, steps) => {
+            let print = printed(alloc, syntax, symbols, &end)?;
+            Ok(Some((print, Some(steps))))
+        }
+        PlainEnd::Spent(end) => {
+            let print = printed(alloc, syntax, symbols, &end)?;
+            Ok(Some((print, None)))
+        }
+    }
 }
 
 #[test]
