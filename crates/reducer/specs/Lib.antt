@@ -1,3 +1,6 @@
 pub mod Standing
 pub mod Turning
 pub mod Marking
+pub mod Events
+pub mod Reducing
+pub mod FirstPast

@@ -2,5 +2,9 @@
 #![tactic(auto)]
 
 mod machine;
+mod outcome;
+mod past;
+mod reduce;
 
 pub use machine::Machine;
+pub use outcome::Outcome;
