@@ -4,3 +4,4 @@ pub mod Marking
 pub mod Events
 pub mod Reducing
 pub mod FirstPast
+pub mod Coming
