@@ -17,8 +17,7 @@ use symbol_table::Symbols;
 use term_graph::Store;
 
 /// What `Machine::reduce` does; and no order of replacements, of any nodes, comes to a normal form of the root
-/// in fewer. Hoffmann and O'Donnell (1984) have the optimality of outermost evaluation on shared graphs; the
-/// proof is this project's own.
+/// in fewer.
 ///
 /// # Errors
 ///
