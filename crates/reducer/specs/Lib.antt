@@ -5,3 +5,4 @@ pub mod Events
 pub mod Reducing
 pub mod FirstPast
 pub mod Coming
+pub mod Nodes

@@ -2,6 +2,7 @@
 #![tactic(auto)]
 
 mod machine;
+mod nodes;
 mod outcome;
 mod past;
 mod reduce;
