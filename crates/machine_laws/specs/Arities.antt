@@ -36,4 +36,4 @@ pub record AgreeOnArities (table : Table) (rules : RuleList) (trees : List (Numb
   pub arity : ReadHead → ℕ
   pub lefts : HasFixedArities (read_system table rules) arity
   pub rights : RightsKeep (read_system table rules) arity
-  pub trees : KeepAll arity (read_trees table trees)
+  pub keeps : KeepAll arity (read_trees table trees)
