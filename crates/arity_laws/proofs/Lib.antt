@@ -1,0 +1,4 @@
+pub mod Meanings
+pub mod Members
+pub mod Sides
+pub mod ReadEquations
