@@ -2,3 +2,4 @@ pub mod Meanings
 pub mod Members
 pub mod Sides
 pub mod ReadEquations
+pub mod Stores

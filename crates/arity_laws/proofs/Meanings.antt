@@ -87,6 +87,6 @@ module _ (arity : ReadHead → ℕ) where
       (sym (count-map_all_heads fixed us) ∙ sym (count-map_all_heads (classed []) (map_all_heads fixed us)) ∙ here, ground_arities us args, ground_arities ts others)
 
 -- a term that is read has the declared numbers of arguments
-pub term_arities : (notation : Notation) (table : Table) (text : List ℕ) (at : ℕ) (t : Tree ReadHead) (end : ℕ) → ReadsTerm notation table text at t end → HasDeclaredArities table t
-term_arities notation table text at t end reads =
+pub term_arities : (notation : Notation) (table : Table) (bytes : List ℕ) (at : ℕ) (t : Tree ReadHead) (end : ℕ) → ReadsTerm notation table bytes at t end → HasDeclaredArities table t
+term_arities notation table bytes at t end reads =
     ground_arities (declared_arity table) (grow t empty) (meant_arities table [] [] (notation.outline reads.written) (map_heads fixed t) reads.means, tt)

@@ -4,7 +4,7 @@ use Rattle.std.specs.Prelude.{Contains, IsTrue}
 use Rattle.std.specs.List.{AllByRecursion}
 use Rattle.eq_base.specs.Tree.{Tree}
 use Rattle.eq_base.specs.Pattern.{PatternCell}
-use Rattle.eq_base.specs.Rewriting.{RightSide, pattern, operation, Rule}
+use Rattle.eq_base.specs.Rewriting.{RightSide, pattern, operation, Rule, System}
 use Rattle.eq_base.specs.RuleList.{RuleList}
 use Rattle.eq_base.specs.ReadHead.{ReadHead}
 use Rattle.eq_base.specs.declared.rules.Equation.{Equation}
@@ -66,6 +66,18 @@ module _ (table : Table) (rules : RuleList) (f : AreOfFile table rules) where
 
 -- ---- tables that grew
 
--- a table that grew declares what it declared
-pub declared_kept : (old new : Table) → Keeps old new → (h : ReadHead) → declared_arity new h ≡ declared_arity old h
-declared_kept old new k h = ap (λ (table : Table). declared_arity table h) (names_kept old new k)
+-- terms keep their numbers of arguments
+pub terms_kept : (old new : Table) → Keeps old new → (t : Tree ReadHead) → HasDeclaredArities old t → HasDeclaredArities new t
+terms_kept old new k t has = subst (λ (table : Table). HasDeclaredArities table t) (sym (names_kept old new k)) has
+
+-- and so do equations
+pub equations_kept : (old new : Table) → Keeps old new → (rules : RuleList) → AreLive old rules → HaveDeclaredArities old rules → HaveDeclaredArities new rules
+equations_kept old new k rules live have =
+    let Fixed : System ReadHead → Table → Type 0 = λ system names. HasFixedArities system (declared_arity names) in
+    let Rights : System ReadHead → Table → Type 0 = λ system names. RightsKeep system (declared_arity names) in
+    let same = system_kept old new k rules live in
+    let names = names_kept old new k in
+    record {
+      lefts = subst (Fixed (read_system new rules)) (sym names) (subst (λ system. Fixed system old) (sym same) have.lefts);
+      rights = subst (Rights (read_system new rules)) (sym names) (subst (λ system. Rights system old) (sym same) have.rights);
+    }

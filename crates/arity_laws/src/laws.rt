@@ -7,8 +7,9 @@ ghost use Rattle.eq_base.specs.Tree.{subtrees};
 ghost use Rattle.eq_base.specs.declared.head.Head.{Head};
 ghost use Rattle.symbol_table.specs.Table.{Table, Keeps, names_of};
 ghost use Rattle.symbol_table.specs.Reading.{read, AreLive};
-ghost use Rattle.written_terms.specs.Notation.{Notation as TermNotation};
+ghost use Rattle.term_lex.specs.declared.syntax.Syntax.{Syntax};
 ghost use Rattle.written_terms.specs.Reading.{ReadsTerm};
+ghost use Rattle.def_file.specs.Notations.{notation_of};
 ghost use Rattle.term_graph.specs.Flattening.{number_from};
 ghost use Rattle.machine_laws.specs.Arities.{AgreeOnArities};
 ghost use Rattle.arity_laws.specs.Declared.{AreOfFile, HaveDeclaredArities, HasDeclaredArities};
@@ -21,8 +22,8 @@ pub fn equations_have_declared_arities()
 
 /// In a term that is read each head has its declared number of arguments.
 pub fn terms_have_declared_arities()
-    ensures { (notation : TermNotation) (table : Table) (text : List ℕ) (at : ℕ) (t : Tree ReadHead) (end : ℕ)
-        → ReadsTerm notation table text at t end → HasDeclaredArities table t }
+    ensures { (syntax : Syntax) (table : Table) (text : List ℕ) (at : ℕ) (t : Tree ReadHead) (end : ℕ)
+        → ReadsTerm (notation_of syntax) table text at t end → HasDeclaredArities table t }
 {}
 
 /// What has its declared numbers of arguments has them also by a table that grew.
