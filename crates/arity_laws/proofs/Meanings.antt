@@ -1,6 +1,6 @@
 -- The terms and patterns to which names give a meaning: their numbers of arguments are those that are declared.
 use Rattle.std.proofs.Common.{◌≡◌, ℕ, zero, suc, List, [], inl, inr, refl, sym, ap, ◌∙◌}
-use Rattle.std.specs.Prelude.{Option, Some, None, slice_index_or, codes}
+use Rattle.std.specs.Prelude.{Option, Some, None, codes}
 use Rattle.std.proofs.lemmas.Option.{get_or_from_slice_get}
 use Rattle.eq_base.specs.Tree.{Tree, Forest, node, empty, grow, count, map_heads, map_all_heads}
 use Rattle.eq_base.specs.Pattern.{PatternCell, fixed, variable, restricted}

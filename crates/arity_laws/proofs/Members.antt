@@ -177,10 +177,10 @@ class_constants table classes none class h is =
     elim (cases_lt class 4) [
       | inl below ↦ symbol_constants table class h (sym (symbol_class same_read_head same_read_head_decides in_read_symbol_class classes class h below) ∙ is)
       | inr past ↦
-        let NoArguments : ReadHead → Type 0 = λ g. declared_arity table g ≡ 0 in
-        all_contained NoArguments (members_of classes class) h
-        (all_or (λ (heads : List ReadHead). AllByRecursion NoArguments heads) classes (class - 4) [] none tt)
-        ((listed_class same_read_head same_read_head_decides in_read_symbol_class classes class h past).0 is)
+          let NoArguments : ReadHead → Type 0 = λ g. declared_arity table g ≡ 0 in
+          all_contained NoArguments (members_of classes class) h
+          (all_or (λ (heads : List ReadHead). AllByRecursion NoArguments heads) classes (class - 4) [] none tt)
+          ((listed_class same_read_head same_read_head_decides in_read_symbol_class classes class h past).0 is)
     ]
 
 -- ---- heads by their numbers
@@ -202,12 +202,12 @@ pub class_read : (table : Table) (classes : List (List Head)) (class : ℕ) (h :
 class_read table classes class h is =
     elim (cases_lt class 4) [
       | inl below ↦
-        symbol_class same_read_head same_read_head_decides in_read_symbol_class (read_classes table classes) class (read_head table h) below
-        ∙ symbol_read table class h
-        ∙ sym (symbol_class same_head same_head_decides in_symbol_class classes class h below)
-        ∙ is
+          symbol_class same_read_head same_read_head_decides in_read_symbol_class (read_classes table classes) class (read_head table h) below
+          ∙ symbol_read table class h
+          ∙ sym (symbol_class same_head same_head_decides in_symbol_class classes class h below)
+          ∙ is
       | inr past ↦
-        let listed = (listed_class same_head same_head_decides in_symbol_class classes class h past).0 is in
-        (listed_class same_read_head same_read_head_decides in_read_symbol_class (read_classes table classes) class (read_head table h) past).1
-        (subst (λ heads. Contains heads (read_head table h)) (sym (members_read table classes (class - 4))) (contains_map (read_head table) (members_of classes class) h listed))
+          let listed = (listed_class same_head same_head_decides in_symbol_class classes class h past).0 is in
+          (listed_class same_read_head same_read_head_decides in_read_symbol_class (read_classes table classes) class (read_head table h) past).1
+          (subst (λ heads. Contains heads (read_head table h)) (sym (members_read table classes (class - 4))) (contains_map (read_head table) (members_of classes class) h listed))
     ]

@@ -1,5 +1,5 @@
 -- The equations of a file, as a table reads them, agree on the declared numbers of arguments.
-use Rattle.std.proofs.Common.{◌≡◌, ℕ, List, map, sym, ap, ◌∙◌, subst}
+use Rattle.std.proofs.Common.{◌≡◌, ℕ, map, sym, subst}
 use Rattle.std.specs.Prelude.{Contains, IsTrue}
 use Rattle.std.specs.List.{AllByRecursion}
 use Rattle.eq_base.specs.Tree.{Tree}
@@ -8,7 +8,7 @@ use Rattle.eq_base.specs.Rewriting.{RightSide, pattern, operation, Rule, System}
 use Rattle.eq_base.specs.RuleList.{RuleList}
 use Rattle.eq_base.specs.ReadHead.{ReadHead}
 use Rattle.eq_base.specs.declared.rules.Equation.{Equation}
-use Rattle.symbol_table.specs.Table.{Table, Keeps, names_of}
+use Rattle.symbol_table.specs.Table.{Table, Keeps}
 use Rattle.symbol_table.specs.Reading.{read_rule, read_classes, read_system, AreLive}
 use Rattle.symbol_table.proofs.Keeping.{names_kept}
 use Rattle.symbol_table.proofs.Rereading.{system_kept}
@@ -39,7 +39,7 @@ module _ (table : Table) (rules : RuleList) (f : AreOfFile table rules) where
   each_rule : (rule : Rule ReadHead) → Contains (read_system table rules).rules rule → IsDeclaredRule rule
   each_rule rule listed =
       let said = subst (λ (names : Table). AllByRecursion (OnSides (HasArities (declared_arity names))) (map unnumbered (plain_equations table rules.equations))) (sym f.names)
-          (said_arities (notation_of f.syntax) f.file f.definitions f.says (plain_equations table rules.equations) f.expansion) in
+      (said_arities (notation_of f.syntax) f.file f.definitions f.says (plain_equations table rules.equations) f.expansion) in
       let plain = all_unmapped (λ (p : PlainEquation ReadHead). IsDeclaredRule p.rule) (OnSides HasDeclared) unnumbered (λ p has. has) (plain_equations table rules.equations) said in
       let each = all_unmapped (λ (e : Equation). IsDeclaredRule (read_rule table e)) (λ (p : PlainEquation ReadHead). IsDeclaredRule p.rule) (plain_equation table) (λ e has. has) rules.equations plain in
       let (e, stands, is) = map-in (read_rule table) rules.equations rule (contains-in listed) in

@@ -1,5 +1,5 @@
 -- The equations of a file have the declared numbers of arguments.
-use Rattle.std.proofs.Common.{◌≡◌, ℕ, suc, ◌+◌, List, [], ◌∷◌, ◌++◌, map, refl, sym, ap, ◌∙◌, subst}
+use Rattle.std.proofs.Common.{◌≡◌, ℕ, suc, ◌+◌, List, [], ◌∷◌, map, refl, sym, ap, ◌∙◌, subst}
 use Rattle.std.specs.Prelude.{Contains}
 use Rattle.std.specs.List.{AllByRecursion}
 use Rattle.std.proofs.lemmas.List.Elements.{Contains-append_left, Contains-append_right}
@@ -14,7 +14,7 @@ use Rattle.term_lex.specs.declared.token.Token.{Token}
 use Rattle.symbol_table.specs.Table.{Table}
 use Rattle.written_terms.specs.Notation.{Notation}
 use Rattle.regularity.specs.Arities.{HasArities, HaveArities}
-use Rattle.def_file.specs.AsRead.{ReadEquation, ItemOf, Equation, Class, ReadNumbered, ReadDefinitions}
+use Rattle.def_file.specs.AsRead.{ItemOf, Equation, Class, ReadNumbered, ReadDefinitions}
 use Rattle.def_file.specs.Trees.{EquationItem, Equates, IncludesOperations}
 use Rattle.def_file.specs.Operations.{operation_symbol}
 use Rattle.def_file.specs.Pairs.{AreRelated}

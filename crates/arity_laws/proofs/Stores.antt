@@ -1,5 +1,5 @@
 -- The trees of a term's store have the numbers of arguments that the term has.
-use Rattle.std.proofs.Common.{◌≡◌, ℕ, suc, ◌+◌, List, map, refl, sym, ap, ◌∙◌, subst}
+use Rattle.std.proofs.Common.{◌≡◌, ℕ, suc, ◌+◌, refl, sym, ap, ◌∙◌, subst}
 use Rattle.std.specs.List.{AllByRecursion}
 use Rattle.eq_base.specs.Tree.{Tree, Forest, node, empty, grow, size, map_all_heads, subtrees, all_subtrees}
 use Rattle.eq_base.specs.ReadHead.{ReadHead}
