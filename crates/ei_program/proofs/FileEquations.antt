@@ -1,40 +1,35 @@
 -- The equations of a file are well formed, and the truth values are declared where an operation needs them.
-use Rattle.std.proofs.Common.{◌≡◌, ℕ, zero, suc, ◌+◌, ◌<◌, List, [], ◌∷◌, ◌++◌, map, length, inl, inr, refl, sym, ap, ◌∙◌, subst, arith, rules}
-use Rattle.std.specs.Prelude.{Bool, true, false, IsTrue, Contains, ◌==◌, ◌&&◌, nat_lt, slice_index_or}
+use Rattle.std.proofs.Common.{◌≡◌, ℕ, ◌+◌, List, [], ◌∷◌, ◌++◌, map, length, refl, sym, ap, ◌∙◌, subst, arith}
+use Rattle.std.specs.Prelude.{IsTrue, slice_index_or}
 use Rattle.std.specs.List.{AllByRecursion, flat_map}
-use Rattle.std.proofs.lemmas.Bool.{cases_lt}
 use Rattle.std.proofs.lemmas.List.{length-map}
-use Rattle.std.proofs.lemmas.List.Elements.{Contains-append_left, Contains-append_right}
-use Rattle.eq_base.specs.Tree.{Tree, Forest, node, empty, grow, count, head_of, map_heads}
-use Rattle.eq_base.specs.Pattern.{PatternCell, fixed, variable, restricted, variables, all_variables}
+use Rattle.eq_base.specs.Tree.{Tree, node, count, head_of, map_heads}
+use Rattle.eq_base.specs.Pattern.{PatternCell, fixed, variable, restricted}
 use Rattle.eq_base.specs.Mapping.{map_cell, map_right}
-use Rattle.eq_base.specs.Meeting.{class_number, in_symbol_class, same_head, in_class_of}
 use Rattle.eq_base.specs.RuleList.{RuleList}
 use Rattle.eq_base.specs.Rewriting.{RightSide, pattern, operation}
 use Rattle.eq_base.specs.Operations.{application, compares}
 use Rattle.eq_base.specs.ReadHead.{ReadHead, symbol}
 use Rattle.eq_base.specs.declared.meeting.SymbolClass.TheVariants.{TruthValues}
-use Rattle.eq_base.specs.declared.head.Head.{Head}
-use Rattle.eq_base.specs.declared.head.Head.TheVariants.{Symbol, Numeral, Atom, Text}
+use Rattle.eq_base.specs.declared.head.Head.TheVariants.{Symbol}
 use Rattle.eq_base.specs.declared.rules.Op.{Op}
 use Rattle.eq_base.specs.declared.rules.Op.TheVariants.{AddInt, SubInt, MultInt, DivInt, ModInt, EquInt, LessInt, EquAtom, EquStr, ConcatStr, LengthStr}
 use Rattle.eq_base.specs.declared.rules.Equation.{Equation}
 use Rattle.eq_base.specs.declared.rules.Right.{Right}
 use Rattle.eq_base.specs.declared.rules.Right.TheVariants as rights
 use Rattle.eq_base.specs.Rules.{right_side}
-use Rattle.eq_base.proofs.ClassMembers.{same_head_decides, symbol_class}
 use Rattle.eq_base.proofs.Lists.{all_at, all_both, all_contained}
 use Rattle.eq_base.proofs.Trees.{size-map_heads}
 use Rattle.term_lex.specs.declared.token.Token.{Token}
-use Rattle.symbol_table.specs.Table.{Table, symbols_of, Includes, names_of}
+use Rattle.symbol_table.specs.Table.{Table, Includes, names_of}
 use Rattle.symbol_table.specs.Reading.{read_head, read_classes}
 use Rattle.written_terms.specs.Notation.{Notation}
 use Rattle.written_terms.proofs.Notations.{IsLawful}
-use Rattle.regularity.specs.Arities.{HasArities, HaveArities}
+use Rattle.regularity.specs.Arities.{HasArities}
 use Rattle.regularity.specs.WellFormed.{right_size, IsWellFormed, AreWellFormed}
 use Rattle.def_file.specs.AsRead.{ReadEquation, ItemOf, Equation as WrittenEquation, Class, ReadNumbered, ReadDefinitions}
 use Rattle.def_file.specs.Trees.{Sides, EquationItem, Equates, IncludesOperations}
-use Rattle.def_file.specs.Operations.{operation_symbol, HasNeeds}
+use Rattle.def_file.specs.Operations.{HasNeeds}
 use Rattle.def_file.specs.Pairs.{AreRelated}
 use Rattle.def_file.specs.Names.{Known, places_of}
 use Rattle.def_file.specs.Sides.{equation_of, Limit, Application, limits_of, all_limits, IsSymbolApplied, KeepsLimit, KeepsAll}
@@ -42,16 +37,13 @@ use Rattle.def_file.specs.Definitions.{classed, MeansSide, MeansEquation, MeansO
 use Rattle.def_file.proofs.Meant.{limits_append}
 use Rattle.def_file.proofs.OneNaming.{AreOnce, distinct_names, pattern_one}
 use Rattle.orthogonal_laws.specs.Operations.{AreTruthsKnown}
-use Rattle.qualifiers.specs.Replacing.{Replacement, replace, replace_all}
-use Rattle.qualifiers.specs.Instances.{parts_of}
+use Rattle.qualifiers.specs.Replacing.{Replacement, replace}
 use Rattle.qualifiers.specs.Classes.{IsProperItem}
 use Rattle.qualifiers.specs.Equations.{Unnumbered}
 use Rattle.qualifiers.specs.Expansion.{PlainEquation, unnumbered, HasNoCircle, cells_in, IsSmall, Gives}
 use Rattle.qualifiers.specs.AsRead.{IsExpansion, plain_equation, plain_equations}
-use Rattle.qualifiers.proofs.Members.{contains_first}
 use Rattle.qualifiers.proofs.MappedEquations.{all_unmapped}
 use Rattle.qualifiers.proofs.EachEquation.{OnSides, each_choice, each_expanded, all_within}
-use Rattle.qualifiers.proofs.MeantParts.{parts_have}
 use Rattle.qualifiers.proofs.SaysProper.{says_proper}
 use Rattle.arity_laws.specs.Declared.{declared_arity}
 use Rattle.arity_laws.proofs.Members.{HaveNoArguments, members_constant, class_constants, class_read}
