@@ -3,6 +3,7 @@ use Rattle.std.proofs.Common.{◌≡◌, ℕ, suc, ◌+◌, refl, sym, ap, ◌�
 use Rattle.std.specs.List.{AllByRecursion}
 use Rattle.eq_base.specs.Tree.{Tree, Forest, node, empty, grow, size, map_all_heads, subtrees, all_subtrees}
 use Rattle.eq_base.specs.ReadHead.{ReadHead}
+use Rattle.eq_base.specs.RuleList.{RuleList}
 use Rattle.eq_base.specs.declared.head.Head.{Head}
 use Rattle.eq_base.proofs.Lists.{all_both}
 use Rattle.eq_base.proofs.Trees.{subtrees-map_heads}
@@ -14,7 +15,9 @@ use Rattle.graph_laws.specs.Numbered.{Numbered, plain}
 use Rattle.term_graph.specs.Flattening.{number_from, number_all_from}
 use Rattle.machine_laws.specs.ReadTrees.{with_heads, read_trees}
 use Rattle.machine_laws.specs.MachineRuns.{KeepAll}
+use Rattle.machine_laws.specs.Arities.{AgreeOnArities}
 use Rattle.machine_laws.proofs.OtherHeads.{plain-other}
+use Rattle.arity_laws.specs.Declared.{declared_arity, HasDeclaredArities, HaveDeclaredArities}
 
 -- ---- the parts of a tree
 
@@ -51,3 +54,12 @@ store_keeps arity table t has i u stands =
     let parts = keep_parts arity whole (subst (λ v. KeepArities arity (grow v empty)) (sym is) has) in
     let all = subst (AllByRecursion (Keeps arity)) (subtrees-map_heads (λ l. (read_head table l.0, l.1)) (number_from 0 t)) parts in
     all-in (Keeps arity) all (get-in (read_trees table (subtrees (number_from 0 t))) i u stands)
+
+-- equations and the store of a term agree
+pub agree : (table : Table) (rules : RuleList) (t : Tree Head) → HaveDeclaredArities table rules → HasDeclaredArities table (read table t) → AgreeOnArities table rules (subtrees (number_from 0 t))
+agree table rules t have has = record {
+  arity = declared_arity table;
+  lefts = have.lefts;
+  rights = have.rights;
+  keeps = store_keeps (declared_arity table) table t has;
+}

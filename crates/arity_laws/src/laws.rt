@@ -1,9 +1,8 @@
 // The laws of declared numbers of arguments: each is the contract of a function that does nothing.
-ghost use Rattle.std.specs.Prelude.{◌≡◌, ℕ, List};
-ghost use Rattle.eq_base.specs.Tree.{Tree};
+ghost use Rattle.std.specs.Prelude.{ℕ, List};
+ghost use Rattle.eq_base.specs.Tree.{Tree, subtrees};
 ghost use Rattle.eq_base.specs.RuleList.{RuleList};
 ghost use Rattle.eq_base.specs.ReadHead.{ReadHead};
-ghost use Rattle.eq_base.specs.Tree.{subtrees};
 ghost use Rattle.eq_base.specs.declared.head.Head.{Head};
 ghost use Rattle.symbol_table.specs.Table.{Table, Keeps, names_of};
 ghost use Rattle.symbol_table.specs.Reading.{read, AreLive};
