@@ -1,5 +1,5 @@
 -- Where a run has brought the machine, and what it remembers.
-use Rattle.std.specs.Prelude.{◌≡◌, ℕ, suc, ◌+◌, List, [], ◌∷◌, ◌++◌, reverse, take, length, Bool, true, false, Some, slice_get, slice_index_or}
+use Rattle.std.specs.Prelude.{◌≡◌, ℕ, suc, ◌+◌, List, [], ◌∷◌, ◌++◌, reverse, take, length, Bool, true, false, Option, Some, None, slice_get, slice_index_or}
 use Rattle.eq_base.specs.Tree.{Forest, node}
 use Rattle.eq_base.specs.ReadHead.{ReadHead}
 use Rattle.eq_base.specs.Rewriting.{System, IsRedexBy, IsFirst}
@@ -103,3 +103,9 @@ module _ (system : System ReadHead) (table : Table) (trees : List (Numbered Head
       pub state : HasComeWith above found.state
       pub redex : IsRedexBy system found.equation (plain (with_heads (read_head table) (plug below t)))
       pub fits_first : IsFirst system found.equation (plain (with_heads (read_head table) (plug below t)))
+
+    -- the run has come to the end, or to a redex
+    abbrev pub IsSearched : (root : ℕ) (first : List (Numbered ReadHead)) (n : ℕ) → Machine → Option Found
+        → Type 0
+    IsSearched root first n machine None = IsAtEnd root first n
+    IsSearched root first n machine (Some found) = IsFound root first n machine found

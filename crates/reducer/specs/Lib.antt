@@ -6,3 +6,6 @@ pub mod Reducing
 pub mod FirstPast
 pub mod Coming
 pub mod Nodes
+pub mod Working
+pub mod Searching
+pub mod Fitting
