@@ -1,3 +1,4 @@
 mod Passed
 mod Turned
 mod ReadOn
+mod Still

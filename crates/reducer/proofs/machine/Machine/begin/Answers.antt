@@ -5,10 +5,11 @@ use Rattle.reducer.specs.Standing.{AreAbove}
 use Rattle.reducer.proofs.machine.Machine.begin.Goals as goal
 
 pub returns : goal.returns
-returns c = λ rules tabled system table trees outer t arrives.
+returns g c = λ rules tabled system table trees outer t arrives settled.
     record {
       next = reading outer [] t [];
-      stands = (
+      stands = record {
+        place = (
         c.args.number,
         c.start.result,
         record {
@@ -21,6 +22,9 @@ returns c = λ rules tabled system table trees outer t arrives.
             begun = arrives.is_node;
           };
         },
-      );
+        );
+        states = tt;
+        settled = settled;
+      };
       turn = turn_begin;
     }
