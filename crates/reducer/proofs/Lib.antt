@@ -1,4 +1,5 @@
 mod Passed
+mod Bits
 mod Turned
 mod ReadOn
 mod Still

@@ -16,7 +16,7 @@ use Rattle.match_tables.specs.Answering.{StandsFor}
 use Rattle.machine_laws.specs.Frames.{Frame, around, plug}
 use Rattle.machine_laws.specs.ReadTrees.{with_heads}
 use Rattle.machine_laws.specs.Places.{Place, reading, among, turning, Turn, turn_over, turn_into, turn_back, turn_first, turn_skip, turn_read}
-use Rattle.reducer.specs.Standing.{AreAbove, IsNode, IsReading, IsReadAmong}
+use Rattle.reducer.specs.Standing.{AreAbove, AreStacks, IsNode, IsReading, IsReadAmong}
 use Rattle.reducer.specs.Turning.{read_label, read_forest, read_frames, read_place}
 use Rattle.reducer.specs.Coming.{AreSettled, HasComeWith, KeepStates, StandsAt, LeadsOn}
 use Rattle.reducer.specs.declared.machine.Above.{Above}
@@ -39,6 +39,7 @@ module _ (system : System ReadHead) (table : Table) (sets : List ItemSet) where
   keeps_here : (trees : List (Numbered Head)) (here : Here) (inner : List (Frame (Head × ℕ))) (a : Above) (s : ℕ)
       → here ≡ Among a s → HasComeWith system table trees sets inner a.state
       → (at : Above) (state : ℕ) → here ≡ Among at state → HasComeWith system table trees sets inner at.state
+  unfolding same_above
   keeps_here trees here inner a s is comes at state also =
       subst (λ z. HasComeWith system table trees sets inner z.state) (ap (λ z. same_above z a) (sym is ∙ also)) comes
 

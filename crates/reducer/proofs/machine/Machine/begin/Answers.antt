@@ -2,6 +2,7 @@ use Rattle.std.proofs.Common.{refl, [], subst, sym}
 use Rattle.std.specs.Prelude.{reverse}
 use Rattle.machine_laws.specs.Places.{reading, turn_begin}
 use Rattle.reducer.specs.Standing.{AreAbove}
+use Rattle.reducer.specs.Coming.{KeepStates}
 use Rattle.reducer.proofs.machine.Machine.begin.Goals as goal
 
 pub returns : goal.returns
@@ -23,7 +24,7 @@ returns g c = λ rules tabled system table trees outer t arrives settled.
           };
         },
         );
-        states = tt;
+        states = subst (λ z. KeepStates system table trees (g.S.States.sets c.args.states.now) (reverse z) []) (sym arrives.alone) tt;
         settled = settled;
       };
       turn = turn_begin;
