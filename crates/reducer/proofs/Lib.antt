@@ -3,3 +3,4 @@ mod Bits
 mod Turned
 mod ReadOn
 mod Still
+mod Settled
