@@ -4,3 +4,4 @@ mod Turned
 mod ReadOn
 mod Still
 mod Settled
+mod Worked
