@@ -1,6 +1,6 @@
 -- What holds at the places of a run, as the machine's code needs it.
-use Rattle.std.proofs.Common.{◌≡◌, ℕ, List, [], Some, sym, ap, subst}
-use Rattle.eq_base.specs.Tree.{Tree, Forest, node, empty, grow}
+use Rattle.std.proofs.Common.{ℕ, List, [], sym, subst}
+use Rattle.eq_base.specs.Tree.{Forest, node, empty}
 use Rattle.eq_base.specs.Storing.{join, join-empty}
 use Rattle.eq_base.specs.Rewriting.{System, IsRedexBy, IsNormal}
 use Rattle.orthogonal_laws.specs.Strategy.{HasNoDemandedRedex}
@@ -11,7 +11,7 @@ use Rattle.machine_laws.specs.Frames.{Frame, plug, AllAround}
 use Rattle.machine_laws.specs.Completions.{FitsFirstAbove}
 use Rattle.machine_laws.specs.Scanning.{ComesTo}
 use Rattle.machine_laws.specs.Ways.{plain_all, plain_frames}
-use Rattle.machine_laws.specs.Places.{Place, arriving, reading, among, turning, ended, turn_end, turn_up, Turn}
+use Rattle.machine_laws.specs.Places.{Place, arriving, reading, among, turning}
 use Rattle.machine_laws.specs.MachineRuns.{MachineRun}
 use Rattle.machine_laws.specs.Starting.{MayStart}
 use Rattle.machine_laws.proofs.Completions.{fits_first_above}

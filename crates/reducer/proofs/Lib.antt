@@ -5,3 +5,6 @@ mod ReadOn
 mod Still
 mod Settled
 mod Worked
+mod UnderWay
+mod WhereHere
+mod Marked
