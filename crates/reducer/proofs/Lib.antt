@@ -8,3 +8,4 @@ mod Worked
 mod UnderWay
 mod WhereHere
 mod Marked
+mod AmongLaws
