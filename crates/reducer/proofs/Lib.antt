@@ -9,3 +9,4 @@ mod UnderWay
 mod WhereHere
 mod Marked
 mod AmongLaws
+mod FoundAbove
