@@ -4,7 +4,7 @@ use Rattle.eq_base.specs.Tree.{Forest, node, empty}
 use Rattle.eq_base.specs.Storing.{join, join-empty}
 use Rattle.eq_base.specs.Rewriting.{System, IsRedexBy, IsNormal}
 use Rattle.orthogonal_laws.specs.Strategy.{HasNoDemandedRedex}
-use Rattle.match_laws.specs.Items.{ItemSet, IsFirstCompleted, WantsNothing}
+use Rattle.match_laws.specs.Items.{ItemSet, IsRead, IsFirstCompleted, WantsNothing}
 use Rattle.match_laws.specs.Demand.{left_sides}
 use Rattle.graph_laws.specs.Numbered.{Numbered, plain}
 use Rattle.machine_laws.specs.Frames.{Frame, plug, AllAround}
@@ -63,3 +63,7 @@ module _ {H : Type 0} (system : System H) (arity : H → ℕ) (root : ℕ) (tree
   over outer inner l before behind items run nothing =
       subst (λ z. AllAround (HasNoDemandedRedex system) (plain_frames inner) (node l.0 z)) (sym (plain-append before behind))
       (stands_over system may.lawful.well_formed may.lawful.orthogonal arity may.lefts (holds_at (among outer inner l before behind items) run).3.stands nothing)
+
+  -- each head leads on from each item set
+  pub read_next : (items : ItemSet) (h : H) → (next : ItemSet) × IsRead system.in_class (left_sides system) items h next
+  read_next items h = sets.read_set system may.lawful.well_formed items h

@@ -20,7 +20,7 @@ use Rattle.reducer.specs.declared.machine.Machine.{Machine}
 use Rattle.reducer.proofs.Passed.{join-join}
 
 module _ (system : System ReadHead) (table : Table) (trees : List (Numbered Head)) (sets : List ItemSet) where
-  as_many : (xs : List Above) (frames : List (Frame (Head × ℕ))) (t : Numbered Head) → AreAbove trees xs frames t → length frames ≡ length xs
+  pub as_many : (xs : List Above) (frames : List (Frame (Head × ℕ))) (t : Numbered Head) → AreAbove trees xs frames t → length frames ≡ length xs
   as_many [] [] t are = refl
   as_many [] (f ∷ frames) t are = elim are [ ]
   as_many (a ∷ xs) [] t are = elim are [ ]

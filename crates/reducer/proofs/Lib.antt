@@ -10,3 +10,4 @@ mod WhereHere
 mod Marked
 mod AmongLaws
 mod FoundAbove
+mod Judging

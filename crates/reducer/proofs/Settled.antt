@@ -14,7 +14,7 @@ use Rattle.symbol_table.specs.Table.{Table}
 use Rattle.symbol_table.specs.Reading.{read_head}
 use Rattle.orthogonal_laws.specs.Strategy.{HasNoDemandedRedex}
 use Rattle.graph_laws.specs.Numbered.{Numbered, plain}
-use Rattle.machine_laws.specs.Frames.{Frame, around, AllAround}
+use Rattle.machine_laws.specs.Frames.{Frame, around, plug, AllAround}
 use Rattle.machine_laws.specs.Ways.{plain_all, plain_frames}
 use Rattle.machine_laws.specs.ReadTrees.{with_heads}
 use Rattle.reducer.specs.Standing.{IsNode, AreAbove}
@@ -67,7 +67,7 @@ module _ (system : System ReadHead) (table : Table) (trees : List (Numbered Head
   first_around P (f ∷ frames) t all = all.0
 
   -- the node above, as it is read, without numbers
-  read-around : (f : Frame (Head × ℕ)) (t : Numbered Head) → plain (with_heads (read_head table) (around f t))
+  pub read-around : (f : Frame (Head × ℕ)) (t : Numbered Head) → plain (with_heads (read_head table) (around f t))
       ≡ around (record { head = read_head table f.head.0; before = plain_all (read_forest table f.before); behind = plain_all (read_forest table f.behind) }) (plain (with_heads (read_head table) t))
   read-around f t =
       ap (λ z. node (read_head table f.head.0) (plain_all z)) (map-join (read_label table) f.before (grow t f.behind))
@@ -95,3 +95,8 @@ module _ (system : System ReadHead) (table : Table) (trees : List (Numbered Head
       with_settled now new number
       (with_all_settled old now items settled (all_back (λ a. IsSettled a.node) items (all_on_way (reverse items) frames t above all)) only)
       (settled_node number t is (first_around (HasNoDemandedRedex system) (plain_frames (read_frames table frames)) (plain (with_heads (read_head table) t)) all)) one
+
+  -- the tree below the frames, as it is read, without numbers
+  pub read-plug-plain : (frames : List (Frame (Head × ℕ))) (t : Numbered Head) → plain (with_heads (read_head table) (plug frames t)) ≡ plug (plain_frames (read_frames table frames)) (plain (with_heads (read_head table) t))
+  read-plug-plain [] t = refl
+  read-plug-plain (f ∷ frames) t = read-plug-plain frames (around f t) ∙ ap (plug (plain_frames (read_frames table frames))) (read-around f t)

@@ -76,3 +76,12 @@ module _ (system : System ReadHead) (table : Table) (trees : List (Numbered Head
         → HasTurned system table trees sets later old new
     from_among at state here each = turns_on (λ root first n p led stands.
         at_among trees sets old (λ p. StandsAt system table trees sets old p → HasLed system root first n (read_trees table trees) (read_place table p) → LeadsOn system table trees later new p) at state here (each root first n) p stands.place stands led)
+
+    -- from a place to which a run has led
+    pub on_way : (root : ℕ) (first : List (Numbered ReadHead)) (n : ℕ) (p : Place Head) → HasLed system root first n (read_trees table trees) (read_place table p)
+        → LeadsOn system table trees later new p → IsUnderWay system table trees later root first n new
+    on_way root first n p led on = record {
+      place = on.next;
+      led = turned_on root first n (read_place table p) (read_place table on.next) led on.turn;
+      stands = on.stands;
+    }
