@@ -11,3 +11,4 @@ mod Marked
 mod AmongLaws
 mod FoundAbove
 mod Judging
+mod ReadAt

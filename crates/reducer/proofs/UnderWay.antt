@@ -8,20 +8,20 @@ use Rattle.symbol_table.specs.Table.{Table}
 use Rattle.match_laws.specs.Items.{ItemSet}
 use Rattle.graph_laws.specs.Numbered.{Numbered}
 use Rattle.machine_laws.specs.Frames.{Frame}
-use Rattle.machine_laws.specs.Places.{Place, arriving, among, turning, Turn}
+use Rattle.machine_laws.specs.Places.{Place, arriving, reading, among, turning, Turn}
 use Rattle.machine_laws.specs.MachineRuns.{run_turn}
 use Rattle.machine_laws.specs.ReadTrees.{read_trees}
 use Rattle.machine_laws.specs.Work.{work}
 use Rattle.machine_laws.proofs.Working.{turn_works}
-use Rattle.reducer.specs.Standing.{IsArriving, IsReadAmong, IsTurning}
+use Rattle.reducer.specs.Standing.{IsArriving, IsReading, IsReadAmong, IsTurning}
 use Rattle.reducer.specs.Turning.{read_place}
 use Rattle.reducer.specs.Coming.{HasLed, StandsAt, LeadsOn, IsUnderWay}
 use Rattle.reducer.specs.Searching.{IsOnItsWay, HasTurned}
 use Rattle.reducer.specs.Working.{turns_left}
 use Rattle.reducer.specs.declared.machine.Above.{Above}
-use Rattle.reducer.specs.declared.machine.Here.TheVariants.{Arriving, Among, Turning}
+use Rattle.reducer.specs.declared.machine.Here.TheVariants.{Arriving, Reading, Among, Turning}
 use Rattle.reducer.specs.declared.machine.Machine.{Machine}
-use Rattle.reducer.proofs.WhereHere.{at_arriving, at_among, at_turning}
+use Rattle.reducer.proofs.WhereHere.{at_arriving, at_reading, at_among, at_turning}
 use Rattle.reducer.proofs.Worked.{turns_are}
 
 
@@ -85,3 +85,13 @@ module _ (system : System ReadHead) (table : Table) (trees : List (Numbered Head
       led = turned_on root first n (read_place table p) (read_place table on.next) led on.turn;
       stands = on.stands;
     }
+
+    -- from a node that is read
+    pub from_reading : (number state : ℕ) → old.here ≡ Reading number state
+        → ((root : ℕ) (first : List (Numbered ReadHead)) (n : ℕ) (outer inner : List (Frame (Head × ℕ))) (t : Numbered Head) (items : ItemSet) → IsReading trees sets old number state outer inner t items
+        → StandsAt system table trees sets old (reading outer inner t items)
+        → HasLed system root first n (read_trees table trees) (read_place table (reading outer inner t items))
+        → LeadsOn system table trees later new (reading outer inner t items))
+        → HasTurned system table trees sets later old new
+    from_reading number state here each = turns_on (λ root first n p led stands.
+        at_reading trees sets old (λ p. StandsAt system table trees sets old p → HasLed system root first n (read_trees table trees) (read_place table p) → LeadsOn system table trees later new p) number state here (each root first n) p stands.place stands led)
