@@ -12,3 +12,4 @@ mod AmongLaws
 mod FoundAbove
 mod Judging
 mod ReadAt
+mod StandsThere
