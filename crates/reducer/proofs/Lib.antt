@@ -13,3 +13,4 @@ mod FoundAbove
 mod Judging
 mod ReadAt
 mod StandsThere
+mod SearchLoop
