@@ -27,10 +27,10 @@ use Rattle.reducer.proofs.Passed.{join-join, map-join}
 -- one node of a stack more
 pub one_more_node : (old now new : List Bool) (above : List Above) (i : ℕ) (d : Above) → i < length above → HasOnlyWith old (map (λ a. a.node) above) now → IsWithNode now (slice_index_or above i d).node new → HasOnlyWith old (map (λ a. a.node) above) new
 one_more_node old now new above i d lt only one n has = elim ((one n).0 has) [
-    | inl before ↦ only n before
-    | inr e ↦ inr (subst (Contains (map (λ a. a.node) above)) (get_or-map (λ a. a.node) above i d ∙ sym e)
-    (Contains-get_or (map (λ a. a.node) above) i d.node (subst (λ z. i < z) (sym (length-map above (λ a. a.node))) lt)))
-  ]
+  | inl before ↦ only n before
+  | inr e ↦ inr (subst (Contains (map (λ a. a.node) above)) (get_or-map (λ a. a.node) above i d ∙ sym e)
+      (Contains-get_or (map (λ a. a.node) above) i d.node (subst (λ z. i < z) (sym (length-map above (λ a. a.node))) lt)))
+]
 
 -- what holds of all, the last one first, holds of all
 pub all_back : {X : Type 0} (P : X → Type 0) (xs : List X) → All P (reverse xs) → All P xs
@@ -50,16 +50,16 @@ module _ (system : System ReadHead) (table : Table) (trees : List (Numbered Head
   -- with one settled node more
   pub with_settled : (old new : List Bool) (n : ℕ) → AreSettled system table trees old → IsSettled system table trees n → IsWithNode old n new → AreSettled system table trees new
   with_settled old new n settled none one k has = elim ((one k).0 has) [
-      | inl before ↦ settled k before
-      | inr e ↦ subst (IsSettled system table trees) (sym e) none
-    ]
+    | inl before ↦ settled k before
+    | inr e ↦ subst (IsSettled system table trees) (sym e) none
+  ]
 
   -- with settled nodes of a stack
   pub with_all_settled : (old new : List Bool) (above : List Above) → AreSettled system table trees old → All (λ a. IsSettled system table trees a.node) above → HasOnlyWith old (map (λ a. a.node) above) new → AreSettled system table trees new
   with_all_settled old new above settled none only k has = elim (only k has) [
-      | inl before ↦ settled k before
-      | inr on ↦ All-contains (IsSettled system table trees) (map (λ a. a.node) above) k (All-map (IsSettled system table trees) (λ a. a.node) above none) on
-    ]
+    | inl before ↦ settled k before
+    | inr on ↦ All-contains (IsSettled system table trees) (map (λ a. a.node) above) k (All-map (IsSettled system table trees) (λ a. a.node) above none) on
+  ]
 
   first_around : {H : Type 0} (P : Tree H → Type 0) (frames : List (Frame H)) (t : Tree H) → AllAround P frames t → P t
   first_around P [] t all = all

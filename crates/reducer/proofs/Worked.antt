@@ -88,10 +88,15 @@ module _ (table : Table) (trees : List (Numbered Head)) where
   turns_are sets machine (among outer inner l before behind items) (at, state, is) =
       let whole : Numbered Head = node l (join before behind) in
       ap (turns_from trees (reverse machine.outer.items) (reverse machine.inner.items) machine.begun) is.here
-      ∙ omega (arith, ap total_size (rest_is at.node at.next l before behind is.is_among), total_size-mapped (read_label table) behind, inner_are (reverse machine.inner.items) inner whole is.stacks.within,
-      begun_are machine.begun inner whole is.stacks.begun
-      ∙ ap (λ z. turn_work (args_of (plug (read_frames table inner) (node (read_label table l) z)))) (map-join (read_label table) before behind),
-      outer_are (reverse machine.outer.items) outer (plug inner whole) is.stacks.above)
+      ∙ omega (
+        arith,
+        ap total_size (rest_is at.node at.next l before behind is.is_among),
+        total_size-mapped (read_label table) behind,
+        inner_are (reverse machine.inner.items) inner whole is.stacks.within,
+        begun_are machine.begun inner whole is.stacks.begun
+            ∙ ap (λ z. turn_work (args_of (plug (read_frames table inner) (node (read_label table l) z)))) (map-join (read_label table) before behind),
+        outer_are (reverse machine.outer.items) outer (plug inner whole) is.stacks.above,
+      )
   turns_are sets machine (turning outer l before behind) (n, passed, is) =
       ap (turns_from trees (reverse machine.outer.items) (reverse machine.inner.items) machine.begun) is.here
       ∙ omega (arith, ap turn_work (rest_is n passed l before behind is.is_among), turn_work-mapped (read_label table) behind, outer_are (reverse machine.outer.items) outer (node l (join before behind)) is.above)

@@ -8,7 +8,7 @@ use Rattle.reducer.proofs.machine.Machine.find.Goals.{in-Ended, in_default}
 pub loop-self-init : goal.loop-self-init
 loop-self-init g c = (
   begins_search c.args.symbols.now c.args.regular.now (g.S.States.sets c.args.states.now) c.args.self.now c.args.store.now
-  (record { distinct = c.included.ensures.distinct; live = c.requires.live; trees = c.requires.live_store; marked = c.requires.marked }) c.requires.run,
+      (record { distinct = c.included.ensures.distinct; live = c.requires.live; trees = c.requires.live_store; marked = c.requires.marked }) c.requires.run,
   c.requires.sets,
 )
 
@@ -46,7 +46,7 @@ loop-self-smaller g c =
 pub loop-self-preserved : goal.loop-self-preserved
 loop-self-preserved g c = (
   goes_on c.args.symbols.now c.args.regular.now (g.S.States.sets c.args.states.now) (g.S.States.sets c.loop-self.states) (g.S.States.sets c.step.new.states) c.args.self.now c.loop-self.self c.step.new.self c.args.store.now c.loop-self.store c.step.new.store c.loop-self.invariant.0 c.step.ensures.trees c.step.ensures.spare c.step.ensures.marked
-  (subst (HasStepped (read_system c.args.symbols.now c.args.regular.now) c.args.symbols.now c.loop-self.store.trees (g.S.States.sets c.loop-self.states) (g.S.States.sets c.step.new.states) c.loop-self.self c.step.new.self) c.in_default-2.is c.in_ok-found.ensures.ok),
+      (subst (HasStepped (read_system c.args.symbols.now c.args.regular.now) c.args.symbols.now c.loop-self.store.trees (g.S.States.sets c.loop-self.states) (g.S.States.sets c.step.new.states) c.loop-self.self c.step.new.self) c.in_default-2.is c.in_ok-found.ensures.ok),
   c.step.ensures.are_of,
 )
 

@@ -19,4 +19,3 @@ returns-in_err-turn-in-Turning-clause-marked g c = c.turn.ensures.marked (read_s
 
 pub returns-in_ok-turn-in-Turning-clause-marked : goal.returns-in_ok-turn-in-Turning-clause-marked
 returns-in_ok-turn-in-Turning-clause-marked g c = c.turn.ensures.marked (read_system c.args.symbols.now c.args.regular.now) c.args.symbols.now (g.S.States.sets c.args.states.now) c.requires.search.marked c.requires.run
-
