@@ -173,6 +173,7 @@ impl Machine {
         ensures spare { store.new.spare ≡ store.old.spare }
         ensures now_marked { AreMarkedNormal (read_system symbols.now regular.now) symbols.now store.new }
     {
+        // A table has one number for each name, as any look-up tells.
         let _ = symbols.included(0);
         while !matches!(self.here, Here::Ended(_)) {
             if let Some(found) = self.step(regular, states, symbols, store)? {
