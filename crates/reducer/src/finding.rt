@@ -34,8 +34,8 @@ impl Machine {
     pub(crate) fn found_at(&self, number: usize, state: usize, done: Completed) -> Found
         requires { done.height ≤ vec_len self.now.inner }
         ensures above { (system : System ReadHead) (table : Table) (trees : List (Numbered Head))
-            (sets : List ItemSet) (outer inner : List (Frame (Head × ℕ))) (t : Numbered Head) (items : ItemSet)
-            → IsReading trees sets self.now number state outer inner t items
+            (sets : List ItemSet) (outer inner : List (Frame (Head × ℕ))) (t : Numbered Head)
+            (items : ItemSet) → IsReading trees sets self.now number state outer inner t items
             → StandsAt system table trees sets self.now (reading outer inner t items)
             → HasComeWith system table trees sets inner state
             → IsFoundAbove system table trees sets inner t done.height result }
@@ -59,8 +59,8 @@ impl Machine {
         }
     }
 
-    // Answers the node where a left side fits that is completed at this one, if its equation has a value there.
-    // If not, no node on the way has a demanded redex, and the reading is over.
+    // Answers the node where a left side fits that is completed at this one, if its equation has a value
+    // there. If not, no node on the way has a demanded redex, and the reading is over.
     pub(crate) fn judge(
         &mut self,
         regular: &Regular,
