@@ -40,7 +40,7 @@ module _ {A : Type 0} where
   length-append (x ∷ xs) ys = let z = length-append xs ys in omega (arith, z)
 
 module _ {H : Type 0} where
-  plain_frames-append : (xs ys : List (Frame (H × ℕ))) → plain_frames (xs ++ ys) ≡ plain_frames xs ++ plain_frames ys
+  pub plain_frames-append : (xs ys : List (Frame (H × ℕ))) → plain_frames (xs ++ ys) ≡ plain_frames xs ++ plain_frames ys
   plain_frames-append [] ys = refl
   plain_frames-append (f ∷ xs) ys = ap (λ z. record { head = f.head.0; before = plain_all f.before; behind = plain_all f.behind } ∷ z) (plain_frames-append xs ys)
 
