@@ -1,40 +1,35 @@
 -- The equations of a file are well formed, and the truth values are declared where an operation needs them.
-use Rattle.std.proofs.Common.{◌≡◌, ℕ, zero, suc, ◌+◌, ◌<◌, List, [], ◌∷◌, ◌++◌, map, length, inl, inr, refl, sym, ap, ◌∙◌, subst, arith, rules}
-use Rattle.std.specs.Prelude.{Bool, true, false, IsTrue, Contains, ◌==◌, ◌&&◌, nat_lt, slice_index_or}
+use Rattle.std.proofs.Common.{◌≡◌, ℕ, ◌+◌, List, [], ◌∷◌, ◌++◌, map, length, refl, sym, ap, ◌∙◌, subst, arith}
+use Rattle.std.specs.Prelude.{IsTrue, slice_index_or}
 use Rattle.std.specs.List.{AllByRecursion, flat_map}
-use Rattle.std.proofs.lemmas.Bool.{cases_lt}
 use Rattle.std.proofs.lemmas.List.{length-map}
-use Rattle.std.proofs.lemmas.List.Elements.{Contains-append_left, Contains-append_right}
-use Rattle.eq_base.specs.Tree.{Tree, Forest, node, empty, grow, count, head_of, map_heads}
-use Rattle.eq_base.specs.Pattern.{PatternCell, fixed, variable, restricted, variables, all_variables}
+use Rattle.eq_base.specs.Tree.{Tree, node, count, head_of, map_heads}
+use Rattle.eq_base.specs.Pattern.{PatternCell, fixed, variable, restricted}
 use Rattle.eq_base.specs.Mapping.{map_cell, map_right}
-use Rattle.eq_base.specs.Meeting.{class_number, in_symbol_class, same_head, in_class_of}
 use Rattle.eq_base.specs.RuleList.{RuleList}
 use Rattle.eq_base.specs.Rewriting.{RightSide, pattern, operation}
 use Rattle.eq_base.specs.Operations.{application, compares}
 use Rattle.eq_base.specs.ReadHead.{ReadHead, symbol}
 use Rattle.eq_base.specs.declared.meeting.SymbolClass.TheVariants.{TruthValues}
-use Rattle.eq_base.specs.declared.head.Head.{Head}
-use Rattle.eq_base.specs.declared.head.Head.TheVariants.{Symbol, Numeral, Atom, Text}
+use Rattle.eq_base.specs.declared.head.Head.TheVariants.{Symbol}
 use Rattle.eq_base.specs.declared.rules.Op.{Op}
 use Rattle.eq_base.specs.declared.rules.Op.TheVariants.{AddInt, SubInt, MultInt, DivInt, ModInt, EquInt, LessInt, EquAtom, EquStr, ConcatStr, LengthStr}
 use Rattle.eq_base.specs.declared.rules.Equation.{Equation}
 use Rattle.eq_base.specs.declared.rules.Right.{Right}
 use Rattle.eq_base.specs.declared.rules.Right.TheVariants as rights
 use Rattle.eq_base.specs.Rules.{right_side}
-use Rattle.eq_base.proofs.ClassMembers.{same_head_decides, symbol_class}
 use Rattle.eq_base.proofs.Lists.{all_at, all_both, all_contained}
 use Rattle.eq_base.proofs.Trees.{size-map_heads}
 use Rattle.term_lex.specs.declared.token.Token.{Token}
-use Rattle.symbol_table.specs.Table.{Table, symbols_of, Includes, names_of}
+use Rattle.symbol_table.specs.Table.{Table, Includes, names_of}
 use Rattle.symbol_table.specs.Reading.{read_head, read_classes}
 use Rattle.written_terms.specs.Notation.{Notation}
 use Rattle.written_terms.proofs.Notations.{IsLawful}
-use Rattle.regularity.specs.Arities.{HasArities, HaveArities}
+use Rattle.regularity.specs.Arities.{HasArities}
 use Rattle.regularity.specs.WellFormed.{right_size, IsWellFormed, AreWellFormed}
 use Rattle.def_file.specs.AsRead.{ReadEquation, ItemOf, Equation as WrittenEquation, Class, ReadNumbered, ReadDefinitions}
 use Rattle.def_file.specs.Trees.{Sides, EquationItem, Equates, IncludesOperations}
-use Rattle.def_file.specs.Operations.{operation_symbol, HasNeeds}
+use Rattle.def_file.specs.Operations.{HasNeeds}
 use Rattle.def_file.specs.Pairs.{AreRelated}
 use Rattle.def_file.specs.Names.{Known, places_of}
 use Rattle.def_file.specs.Sides.{equation_of, Limit, Application, limits_of, all_limits, IsSymbolApplied, KeepsLimit, KeepsAll}
@@ -42,20 +37,18 @@ use Rattle.def_file.specs.Definitions.{classed, MeansSide, MeansEquation, MeansO
 use Rattle.def_file.proofs.Meant.{limits_append}
 use Rattle.def_file.proofs.OneNaming.{AreOnce, distinct_names, pattern_one}
 use Rattle.orthogonal_laws.specs.Operations.{AreTruthsKnown}
-use Rattle.qualifiers.specs.Replacing.{Replacement, replace, replace_all}
-use Rattle.qualifiers.specs.Instances.{parts_of}
+use Rattle.qualifiers.specs.Replacing.{Replacement, replace}
 use Rattle.qualifiers.specs.Classes.{IsProperItem}
 use Rattle.qualifiers.specs.Equations.{Unnumbered}
 use Rattle.qualifiers.specs.Expansion.{PlainEquation, unnumbered, HasNoCircle, cells_in, IsSmall, Gives}
 use Rattle.qualifiers.specs.AsRead.{IsExpansion, plain_equation, plain_equations}
-use Rattle.qualifiers.proofs.Members.{contains_first}
 use Rattle.qualifiers.proofs.MappedEquations.{all_unmapped}
-use Rattle.qualifiers.proofs.EachEquation.{IsKept, each_choice, choice_keeps, each_expanded, all_within}
-use Rattle.qualifiers.proofs.MeantParts.{parts_have}
+use Rattle.qualifiers.proofs.EachEquation.{OnSides, each_choice, each_expanded, all_within}
 use Rattle.qualifiers.proofs.SaysProper.{says_proper}
-use Rattle.ei_program.proofs.Meanings.{arity_in, listed_arity, meant_arities}
+use Rattle.arity_laws.specs.Declared.{declared_arity}
+use Rattle.arity_laws.proofs.Members.{HaveNoArguments, members_constant, class_constants, class_read}
+use Rattle.arity_laws.proofs.Sides.{said_arities}
 use Rattle.ei_program.proofs.ReadPatterns.{arities_back, root_back, application_back}
-use Rattle.ei_program.proofs.Members.{HaveNoArguments, members_constant, listed_constant}
 
 -- ---- patterns whose variables are replaced
 
@@ -69,42 +62,16 @@ root-replace θ (node (fixed h) ps) root = root
 root-replace θ (node (variable x) ps) (s, is) = cc
 root-replace θ (node (restricted x class) ps) root = root
 
-module _ {H : Type 0} (arity : H → ℕ) where
-  -- as many patterns
-  count-replace_all : (θ : Replacement H) (ps : Forest (PatternCell H)) → count (replace_all θ ps) ≡ count ps
-  count-replace_all θ empty = refl
-  count-replace_all θ (grow p ps) = ap suc (count-replace_all θ ps)
-
-  -- the heads keep their numbers of arguments
-  mutual
-    arities-replace : (θ : Replacement H) (p : Tree (PatternCell H)) → HasArities arity p → ((x : ℕ) → Contains (variables p) x → HasArities arity (θ x)) → HasArities arity (replace θ p)
-    arities-replace θ (node (fixed h) ps) (here, others) each = (count-replace_all θ ps ∙ here, all_arities-replace θ ps others each)
-    arities-replace θ (node (variable x) ps) none each = each x (contains_first x [])
-    arities-replace θ (node (restricted x class) ps) none each = none
-
-    all_arities-replace : (θ : Replacement H) (ps : Forest (PatternCell H)) → HaveArities arity ps → ((x : ℕ) → Contains (all_variables ps) x → HasArities arity (θ x)) → HaveArities arity (replace_all θ ps)
-    all_arities-replace θ empty all each = tt
-    all_arities-replace θ (grow p ps) (first, others) each = (
-      arities-replace θ p first (λ x c. each x (Contains-append_left (variables p) (all_variables ps) x c)),
-      all_arities-replace θ ps others (λ x c. each x (Contains-append_right (variables p) (all_variables ps) x c)),
-    )
-
-  -- so replaced patterns have them
-  arities_kept : IsKept (HasArities arity)
-  arities_kept = record { of_variable = λ x. refl; of_replaced = arities-replace }
-
 -- ---- the equations of an item
 
--- what is known of an item: a symbol at the root of its left side, and the table's numbers of arguments
-abbrev IsFitItem : Table → ItemOf ReadHead → Type 0
-IsFitItem table (WrittenEquation w) =
-    HasSymbol w.left × AllByRecursion (HasArities (arity_in table)) (parts_of w)
-IsFitItem table (Class op byte) = Unit {0}
+-- what is known of an item: a symbol at the root of its left side
+abbrev IsFitItem : ItemOf ReadHead → Type 0
+IsFitItem (WrittenEquation w) = HasSymbol w.left
+IsFitItem (Class op byte) = Unit {0}
 
 -- what is known of an equation
-record IsFit (table : Table) (e : Unnumbered ReadHead) : Type 0 where
+record IsFit (e : Unnumbered ReadHead) : Type 0 where
   pub root : HasSymbol e.rule.left
-  pub arities : HasArities (arity_in table) e.rule.left
   pub applied : (op : Op) → e.rule.right ≡ operation op → (s : ℕ) × (e.rule.left ≡ application op (symbol s))
 
 -- an operation's symbol stands at the root of its application
@@ -122,39 +89,21 @@ application_root ConcatStr s = (s, refl)
 application_root LengthStr s = (s, refl)
 
 module _ (table : Table) where
-  -- an operation's symbol is declared with as many arguments as it has operands
-  application_arities : (op : Op) (s : ℕ) → (operation_symbol op).arity ≡ arity_in table (symbol s) → HasArities (arity_in table) (application op (symbol s))
-  application_arities AddInt s has = (has, (refl, (refl, tt)))
-  application_arities SubInt s has = (has, (refl, (refl, tt)))
-  application_arities MultInt s has = (has, (refl, (refl, tt)))
-  application_arities DivInt s has = (has, (refl, (refl, tt)))
-  application_arities ModInt s has = (has, (refl, (refl, tt)))
-  application_arities EquInt s has = (has, (refl, (refl, tt)))
-  application_arities LessInt s has = (has, (refl, (refl, tt)))
-  application_arities EquAtom s has = (has, (refl, (refl, tt)))
-  application_arities EquStr s has = (has, (refl, (refl, tt)))
-  application_arities ConcatStr s has = (has, (refl, (refl, tt)))
-  application_arities LengthStr s has = (has, (refl, tt))
-
   -- each equation of an item is fit
-  given_fit : (number : ℕ) (i : ItemOf ReadHead) (es : List (Unnumbered ReadHead)) → IsFitItem table i → HasNoCircle i → Gives symbol table number i es → AllByRecursion (IsFit table) es
-  given_fit number (WrittenEquation w) es (root, parts) none gives =
-      each_choice (IsFit table) w number es
-      (λ choice e is of.
-      let sides = choice_keeps (HasArities (arity_in table)) (arities_kept (arity_in table)) w none parts number choice e is of in
-      record {
+  given_fit : (number : ℕ) (i : ItemOf ReadHead) (es : List (Unnumbered ReadHead)) → IsFitItem i → HasNoCircle i → Gives symbol table number i es → AllByRecursion IsFit es
+  given_fit number (WrittenEquation w) es root none gives =
+      each_choice IsFit w number es
+      (λ choice e is of. record {
         root = subst (λ (u : Unnumbered ReadHead). HasSymbol u.rule.left) (sym of.is) (root-replace of.replacement w.left root);
-        arities = sides.0;
         applied = λ op right. let plain : pattern (replace of.replacement w.right) ≡ operation op = sym (ap (λ (u : Unnumbered ReadHead). u.rule.right) of.is) ∙ right in cc;
       })
       gives
   given_fit number (Class op byte) es fit none (e, of, is) =
-      let of_application : IsFit table (record { item = number; rule = record { left = application op (symbol of.symbol); right = operation op } }) = record {
+      let of_application : IsFit (record { item = number; rule = record { left = application op (symbol of.symbol); right = operation op } }) = record {
         root = application_root op of.symbol;
-        arities = application_arities op of.symbol (listed_arity table (operation_symbol op).name (operation_symbol op).arity of.symbol of.declared);
         applied = λ other right. (of.symbol, ap (λ o. application o (symbol of.symbol)) (let same : op ≡ other = cc in same));
       } in
-      subst (AllByRecursion (IsFit table)) (sym is) (subst (IsFit table) (sym of.is) of_application, tt)
+      subst (AllByRecursion IsFit) (sym is) (subst IsFit (sym of.is) of_application, tt)
 
   -- ---- operations
 
@@ -190,7 +139,7 @@ module _ (table : Table) where
 
 module _ (notation : Notation) (lawful : IsLawful notation) (text : List ℕ) (known : Known) (once : AreOnce known) where
   abbrev IsFitOne : ReadNumbered → Type 0
-  IsFitOne n = IsFitItem known.table n.item
+  IsFitOne n = IsFitItem n.item
 
   -- a symbol stays at the root where variables have classes
   symbol_root : (classes : List (ℕ × ℕ)) (p : Tree (PatternCell ReadHead)) → IsSymbolApplied p → HasSymbol (map_heads (classed classes) p)
@@ -203,11 +152,6 @@ module _ (notation : Notation) (lawful : IsLawful notation) (text : List ℕ) (k
       let root = symbol_root classes plain (subst IsSymbolApplied (pattern_one lawful text known once byte other plain reads' reads) application) in
       (root.0, ap head_of is ∙ root.1)
 
-  -- a side that is meant has the declared numbers of arguments
-  side_arities : (classes : List (ℕ × ℕ)) (byte : ℕ) (p : Tree (PatternCell ReadHead)) → MeansSide notation text known classes byte p → HasArities (arity_in known.table) p
-  side_arities classes byte p (plain, (end, reads), is) =
-      subst (HasArities (arity_in known.table)) (sym is) (meant_arities known.table known.variables classes (notation.outline reads.written) plain reads.means)
-
   -- the limits in front, and behind
   keeps_front : (xs ys : List Limit) → KeepsAll notation text known (xs ++ ys) → KeepsAll notation text known xs
   keeps_front [] ys all = tt
@@ -218,11 +162,8 @@ module _ (notation : Notation) (lawful : IsLawful notation) (text : List ℕ) (k
   keeps_back (x ∷ xs) ys (here, others) = keeps_back xs ys others
 
   -- an equation that is meant is fit
-  equation_fits : (before : ℕ) (sides : Sides) (w : ReadEquation) → MeansEquation notation text known sides w → KeepsAll notation text known (limits_of before sides) → IsFitItem known.table (WrittenEquation w)
-  equation_fits before sides w means (few, (application, others)) = (
-    side_root means.classes sides.left w.left means.left application,
-    parts_have notation text known sides w means (HasArities (arity_in known.table)) (side_arities means.classes),
-  )
+  equation_fits : (before : ℕ) (sides : Sides) (w : ReadEquation) → MeansEquation notation text known sides w → KeepsAll notation text known (limits_of before sides) → IsFitItem (WrittenEquation w)
+  equation_fits before sides w means (few, (application, others)) = side_root means.classes sides.left w.left means.left application
 
   -- of operations nothing is asked
   operations_fit : (number : ℕ) (names : List Token) (ns : List ReadNumbered) → AreRelated (MeansOperation text known number) names ns → AllByRecursion IsFitOne ns
@@ -247,36 +188,6 @@ module _ (notation : Notation) (lawful : IsLawful notation) (text : List ℕ) (k
       (item_fits before number i front here (keeps_front (all_limits before (equation_of i)) _ parts))
       (items_fit (before + length (equation_of i)) (number + 1) is back others (keeps_back (all_limits before (equation_of i)) _ parts)))
 
--- ---- the heads of classes
-
--- a number below 2 is that of a truth value, which has no arguments
-truth_arity : (table : Table) (s : ℕ) → s < 2 → (slice_index_or (symbols_of table) s (record { name = []; arity = 0 })).arity ≡ 0
-truth_arity table zero lt = refl
-truth_arity table (suc zero) lt = refl
-truth_arity table (suc (suc s)) lt = absurd (omega (arith, lt))
-
-second_true : (a b : Bool) → IsTrue (a && b) → IsTrue b
-second_true true b is = is
-second_true false b is = cc
-
-below_two : (s : ℕ) → IsTrue (nat_lt s 2) → s < 2
-below_two s is = search rules
-
--- the heads of symbol classes have no arguments
-symbol_constants : (names table : Table) (class : ℕ) (h : Head) → IsTrue (in_symbol_class class h) → arity_in names (read_head table h) ≡ 0
-symbol_constants names table class (Symbol s) is = truth_arity names s (below_two s (second_true (class == class_number TruthValues) (nat_lt s 2) is))
-symbol_constants names table class (Numeral i) is = refl
-symbol_constants names table class (Atom n) is = refl
-symbol_constants names table class (Text n) is = refl
-
--- nor have those of the classes of a file, where its members have none
-constants : (names table : Table) (classes : List (List Head)) → HaveNoArguments names (read_classes table classes) → (class : ℕ) (h : Head) → IsTrue (in_class_of classes class h) → arity_in names (read_head table h) ≡ 0
-constants names table classes none class h is =
-    elim (cases_lt class 4) [
-      | inl below ↦ symbol_constants names table class h (sym (symbol_class same_head same_head_decides in_symbol_class classes class h below) ∙ is)
-      | inr past ↦ listed_constant names table classes none class h past is
-    ]
-
 -- ---- a file
 
 module _ (table : Table) where
@@ -290,8 +201,8 @@ module _ (table : Table) where
   right_cells (rights.Schema op) = refl
 
   -- an equation that is small and fit as it is read is well formed
-  numbered_fits : (names : Table) (e : Equation) → IsSmall (read_one e) → IsFit names (read_one e) → IsWellFormed e
-  numbered_fits names e small fit = record {
+  numbered_fits : (e : Equation) → IsSmall (read_one e) → IsFit (read_one e) → IsWellFormed e
+  numbered_fits e small fit = record {
     left_size = let few = small.left in omega (arith, size-map_heads (map_cell (read_head table)) e.left, few);
     right_size = let few = small.right in omega (arith, right_cells e.right, few);
     root = root_back table e.left fit.root.0 fit.root.1;
@@ -312,24 +223,25 @@ module _ (notation : Notation) (lawful : IsLawful notation) (text : List ℕ) (d
   equations = map unnumbered (plain_equations table numbered)
 
   -- the items that the text says are fit
-  items_are_fit : AllByRecursion (λ (n : ReadNumbered). IsFitItem d.names n.item) d.items
+  items_are_fit : AllByRecursion (λ (n : ReadNumbered). IsFitItem n.item) d.items
   items_are_fit =
       let once = distinct_names lawful text (places_of says.file) says.known says.names in
-      subst (λ (names : Table). AllByRecursion (λ (n : ReadNumbered). IsFitItem names n.item) d.items) (sym says.declared)
-      (items_fit notation lawful text says.known once 0 1 says.file.items d.items says.items says.limits)
+      items_fit notation lawful text says.known once 0 1 says.file.items d.items says.items says.limits
 
   -- its equations are well formed, whatever numbers their heads have
   pub file_well_formed : IsExpansion d (plain_equations table rules.equations) → read_classes table rules.classes ≡ d.classes → AreWellFormed rules
   file_well_formed expansion same =
       let within = all_within symbol d.names d.items equations expansion.expands in
       let small = all_numbered table IsSmall numbered within.each in
-      let fit = all_numbered table (IsFit d.names) numbered (each_expanded symbol d.names (IsFit d.names) (IsFitItem d.names) (given_fit d.names) [] d.items equations items_are_fit expansion.expands) in
+      let fit = all_numbered table IsFit numbered (each_expanded symbol d.names IsFit IsFitItem (given_fit d.names) [] d.items equations items_are_fit expansion.expands) in
+      let declared = all_numbered table (OnSides (HasArities (declared_arity d.names))) numbered (said_arities notation text d says (plain_equations table numbered) expansion) in
+      let members = subst (HaveNoArguments d.names) (sym same) (members_constant notation text d says) in
       record {
         few = let few = within.few in omega (arith, few, length-map (plain_equations table numbered) unnumbered, length-map numbered (plain_equation table));
-        each = λ k e lt. numbered_fits table d.names (slice_index_or numbered k e) (all_at (λ e. IsSmall (read_one table e)) numbered k e lt small) (all_at (λ e. IsFit d.names (read_one table e)) numbered k e lt fit);
-        arity = λ h. arity_in d.names (read_head table h);
-        arities = λ k e lt. let fits = all_at (λ e. IsFit d.names (read_one table e)) numbered k e lt fit in arities_back (arity_in d.names) (read_head table) (slice_index_or numbered k e).left fits.arities;
-        constants = constants d.names table rules.classes (subst (HaveNoArguments d.names) (sym same) (members_constant notation text d says));
+        each = λ k e lt. numbered_fits table (slice_index_or numbered k e) (all_at (λ e. IsSmall (read_one table e)) numbered k e lt small) (all_at (λ e. IsFit (read_one table e)) numbered k e lt fit);
+        arity = λ h. declared_arity d.names (read_head table h);
+        arities = λ k e lt. let sides = all_at (λ e. OnSides (HasArities (declared_arity d.names)) (read_one table e)) numbered k e lt declared in arities_back (declared_arity d.names) (read_head table) (slice_index_or numbered k e).left sides.0;
+        constants = λ class h is. class_constants d.names (read_classes table rules.classes) members class (read_head table h) (class_read table rules.classes class h is);
       }
 
   -- and the truth values are declared where the value of an operation is one

@@ -11,6 +11,8 @@ use Rattle.symbol_table.proofs.Keeping.{names_kept, includes_as}
 use Rattle.symbol_table.proofs.Rereading.{rule_kept, classes_kept, live_rules_kept}
 use Rattle.eq_base.specs.declared.meeting.SymbolClass.TheVariants.{TruthValues}
 use Rattle.ei_program.specs.declared.ready.Ready.{Ready}
+use Rattle.arity_laws.specs.Declared.{HaveDeclaredArities}
+use Rattle.arity_laws.proofs.ReadEquations.{equations_declared}
 use Rattle.qualifiers.specs.AsRead.{plain_equation}
 use Rattle.ei_program.specs.Definitions.{rule_in, system, IsAccepted, definitions_of}
 use Rattle.ei_program.specs.Loading.{IsReady}
@@ -51,6 +53,13 @@ pub system-held : (l : Ready) → system (definitions_of l) ≡ read_system l.sy
 system-held l =
     ap (λ rules. record { rules = rules; in_class = in_read_class (read_classes l.symbols l.regular.classes); value_of = value_of })
     (map-map rule_in (plain_equation l.symbols) (read_rule l.symbols) l.regular.equations (λ e. refl))
+
+-- the equations have the declared numbers of arguments
+pub ready_arities : (l : Ready) → IsReady l → HaveDeclaredArities l.symbols l.regular
+ready_arities l ready =
+    let accepted = ready.accepted in
+    let defines = accepted.defines in
+    equations_declared l.symbols l.regular (record { syntax = accepted.syntax; file = accepted.file; definitions = defines.read; says = defines.says; names = defines.names; classes = defines.classes; expansion = defines.expansion })
 
 -- what is declared is declared once
 pub ready_distinct : (l : Ready) → IsReady l → HasDistinctNames (definitions_of l).names

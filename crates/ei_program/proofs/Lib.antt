@@ -1,6 +1,4 @@
-mod Meanings
 mod ReadPatterns
-mod Members
 mod FileEquations
 mod Holding
 mod Answers

@@ -116,7 +116,7 @@ module _ {H : Type 0} (system : System H) where
           )
 
       -- a settled node whose arguments are normal is normal
-      turned_normal : (l : H × ℕ) (before : Forest (H × ℕ)) → HasNoDemandedRedex system (plain (node l (append before empty))) → AllTrees (IsNormal system) (plain_all before) → IsNormal system (plain (node l (append before empty)))
+      pub turned_normal : (l : H × ℕ) (before : Forest (H × ℕ)) → HasNoDemandedRedex system (plain (node l (append before empty))) → AllTrees (IsNormal system) (plain_all before) → IsNormal system (plain (node l (append before empty)))
       turned_normal l before nothing all =
           subst (λ z. IsNormal system (plain (node l z))) (sym (join-empty before)) (normal_node system w o l.0 (plain_all before) (subst (λ z. HasNoDemandedRedex system (plain (node l z))) (join-empty before) nothing) all)
 

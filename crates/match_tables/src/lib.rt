@@ -7,8 +7,10 @@ mod further;
 mod row;
 mod search;
 mod sets;
+mod states;
 mod step;
 mod tables;
 
 pub use advance::{Advance, Want};
+pub use states::States;
 pub use tables::Tables;

@@ -1,3 +1,16 @@
 mod Passed
+mod Bits
 mod Turned
 mod ReadOn
+mod Still
+mod Settled
+mod Worked
+mod UnderWay
+mod WhereHere
+mod Marked
+mod AmongLaws
+mod FoundAbove
+mod Judging
+mod ReadAt
+mod StandsThere
+mod SearchLoop

@@ -13,6 +13,10 @@ use Rattle.eq_base.proofs.Heads.{some_same}
 use Rattle.graph_laws.specs.Numbered.{Numbered, plain, root_number}
 use Rattle.term_graph.specs.Graph.{Graph, numbered_at, term_at, IsNumberedArgument}
 use Rattle.machine_laws.specs.Frames.{Frame}
+use Rattle.machine_laws.specs.ReadTrees.{with_heads}
+use Rattle.machine_laws.proofs.OtherHeads.{plain-other}
+use Rattle.symbol_table.specs.Table.{Table}
+use Rattle.symbol_table.specs.Reading.{read, read_head}
 use Rattle.reducer.specs.Standing.{IsNode, IsAmong, AreAbove}
 use Rattle.reducer.specs.declared.machine.Above.{Above}
 
@@ -102,3 +106,7 @@ none_behind g n passed l before (grow t behind) among all = absurd (omega (arith
 pub some_behind : (g : Graph) (n passed : ℕ) (l : Head × ℕ) (before : Forest (Head × ℕ)) (P : Forest (Head × ℕ) → Type 0) → passed < arity_of (term_at g n) → ((t : Numbered Head) (behind : Forest (Head × ℕ)) → P (grow t behind)) → (behind : Forest (Head × ℕ)) → IsAmong g.trees n passed l before behind → P behind
 some_behind g n passed l before P lt each empty among = absurd (omega (arith, lt, arity_here g n passed l before empty among))
 some_behind g n passed l before P lt each (grow t behind) among = each t behind
+
+-- and as it is read
+pub read_here : (table : Table) (g : Graph) (n : ℕ) (t : Numbered Head) → IsNode g.trees n t → read table (term_at g n) ≡ plain (with_heads (read_head table) t)
+read_here table g n t is = ap (read table) (term_here g n t is) ∙ sym (plain-other (read_head table) t)

@@ -1,3 +1,9 @@
 pub mod Standing
 pub mod Turning
 pub mod Marking
+pub mod Reducing
+pub mod Coming
+pub mod Nodes
+pub mod Working
+pub mod Searching
+pub mod Fitting

@@ -1,18 +1,13 @@
--- The turns of the machine's loop, with heads as they are read.
+-- The places of the machine, with heads as they are read.
 use Rattle.std.specs.Prelude.{ℕ, List, map}
 use Rattle.eq_base.specs.Tree.{Forest, map_all_heads}
 use Rattle.eq_base.specs.ReadHead.{ReadHead}
-use Rattle.eq_base.specs.Rewriting.{System}
 use Rattle.eq_base.specs.declared.head.Head.{Head}
 use Rattle.symbol_table.specs.Table.{Table}
 use Rattle.symbol_table.specs.Reading.{read_head}
-use Rattle.match_laws.specs.Items.{ItemSet}
-use Rattle.graph_laws.specs.Numbered.{Numbered}
 use Rattle.machine_laws.specs.Frames.{Frame}
 use Rattle.machine_laws.specs.ReadTrees.{with_heads}
-use Rattle.machine_laws.specs.Places.{Place, arriving, reading, among, turning, ended, Turn}
-use Rattle.reducer.specs.Standing.{IsPlace}
-use Rattle.reducer.specs.declared.machine.Machine.{Machine}
+use Rattle.machine_laws.specs.Places.{Place, arriving, reading, among, turning, ended}
 
 -- a head as it is read, with its number
 abbrev pub read_label : Table → Head × ℕ → ReadHead × ℕ
@@ -46,10 +41,3 @@ read_place table (turning outer l before behind) =
     turning (read_frames table outer) (read_label table l) (read_forest table before)
     (read_forest table behind)
 read_place table (ended t) = ended (with_heads (read_head table) t)
-
--- the machine stands now for a place to which a turn leads from this one
-pub record LeadsOn (system : System ReadHead) (table : Table) (sets : List ItemSet)
-    (trees : List (Numbered Head)) (machine : Machine) (p : Place Head) : Type 0 where
-  pub next : Place Head
-  pub stands : IsPlace trees sets machine next
-  pub turn : Turn system (read_place table p) (read_place table next)

@@ -1,15 +1,18 @@
 -- The members of the classes of a file have no arguments.
-use Rattle.std.proofs.Common.{◌≡◌, ℕ, zero, suc, ◌-◌, ◌≤◌, List, [], ◌∷◌, ◌++◌, map, Some, slice_get, refl, sym, subst}
-use Rattle.std.specs.Prelude.{IsTrue, set, slice_index_or}
+use Rattle.std.proofs.Common.{◌≡◌, ℕ, zero, suc, ◌-◌, ◌<◌, List, [], ◌∷◌, ◌++◌, map, Some, slice_get, inl, inr, refl, sym, ◌∙◌, subst, arith, rules}
+use Rattle.std.specs.Prelude.{Bool, true, false, IsTrue, Contains, ◌==◌, ◌&&◌, nat_lt, set, slice_index_or}
 use Rattle.std.specs.List.{AllByRecursion}
+use Rattle.std.proofs.lemmas.Bool.{cases_lt}
 use Rattle.std.proofs.lemmas.Option.{none-some}
 use Rattle.std.proofs.lemmas.List.Elements.{Contains-append_left}
 use Rattle.eq_base.specs.ClassLists.{members_of, with_member}
-use Rattle.eq_base.specs.Meeting.{in_symbol_class, same_head, in_class_of}
-use Rattle.eq_base.specs.ReadHead.{ReadHead}
+use Rattle.eq_base.specs.Meeting.{class_number, in_symbol_class, same_head, in_class_of}
+use Rattle.eq_base.specs.ReadHead.{ReadHead, in_read_symbol_class, same_read_head, in_read_class}
+use Rattle.eq_base.specs.ReadHead as reading
+use Rattle.eq_base.specs.declared.meeting.SymbolClass.TheVariants.{TruthValues}
 use Rattle.eq_base.specs.declared.head.Head.{Head}
 use Rattle.eq_base.specs.declared.head.Head.TheVariants as head
-use Rattle.eq_base.proofs.ClassMembers.{same_head_decides, listed_class}
+use Rattle.eq_base.proofs.ClassMembers.{same_head_decides, same_read_head_decides, symbol_class, listed_class}
 use Rattle.eq_base.proofs.Lists.{all_map, all_push, all_contained}
 use Rattle.term_lex.specs.declared.token.Token.{Token}
 use Rattle.symbol_table.specs.Table.{Table, symbols_of, IsDeclared, Declares, AddsClass}
@@ -18,8 +21,10 @@ use Rattle.written_terms.specs.Notation.{Notation}
 use Rattle.def_file.specs.AsRead.{ReadDefinitions}
 use Rattle.def_file.specs.Names.{Place, Symbol, Class, NewClass, Member, Variable, Term, Qualified, ClassOf, Operation, Known, nothing_known, places_of, MeansMember, Takes, TakesAll}
 use Rattle.def_file.specs.Definitions.{Says}
-use Rattle.qualifiers.proofs.MappedEquations.{all_mapped, all_unmapped}
-use Rattle.ei_program.proofs.Meanings.{arity_in, listed_arity}
+use Rattle.qualifiers.proofs.Members.{contains_map}
+use Rattle.qualifiers.proofs.MappedEquations.{all_mapped}
+use Rattle.arity_laws.specs.Declared.{declared_arity}
+use Rattle.arity_laws.proofs.Meanings.{listed_arity}
 
 -- ---- the elements of a list
 
@@ -123,9 +128,9 @@ module _ (notation : Notation) (text : List ℕ) where
 
 -- a head of these classes has no arguments by the table
 abbrev pub HaveNoArguments : Table → List (List ReadHead) → Type 0
-HaveNoArguments names classes = AllByRecursion (λ (heads : List ReadHead). AllByRecursion (λ (h : ReadHead). arity_in names h ≡ 0) heads) classes
+HaveNoArguments names classes = AllByRecursion (λ (heads : List ReadHead). AllByRecursion (λ (h : ReadHead). declared_arity names h ≡ 0) heads) classes
 
-constant_read : (table : Table) (h : Head) → IsConstant table h → arity_in table (read_head table h) ≡ 0
+constant_read : (table : Table) (h : Head) → IsConstant table h → declared_arity table (read_head table h) ≡ 0
 constant_read table (head.Symbol s) (name, is) = sym (listed_arity table name 0 s is)
 constant_read table (head.Numeral i) is = refl
 constant_read table (head.Atom a) is = refl
@@ -137,23 +142,72 @@ members_constant notation text d says =
     let table = says.known.table in
     let all : HasConstants says.known = all_constants_taken notation text (places_of says.file) nothing_known says.known says.names tt in
     let read : HaveNoArguments table (read_classes table says.known.classes) =
-    all_mapped (λ (heads : List Head). AllByRecursion (IsConstant table) heads) (λ (heads : List ReadHead). AllByRecursion (λ (h : ReadHead). arity_in table h ≡ 0) heads)
+    all_mapped (λ (heads : List Head). AllByRecursion (IsConstant table) heads) (λ (heads : List ReadHead). AllByRecursion (λ (h : ReadHead). declared_arity table h ≡ 0) heads)
     (λ (heads : List Head). map (read_head table) heads)
-    (λ heads. all_mapped (IsConstant table) (λ (h : ReadHead). arity_in table h ≡ 0) (read_head table) (constant_read table) heads)
+    (λ heads. all_mapped (IsConstant table) (λ (h : ReadHead). declared_arity table h ≡ 0) (read_head table) (constant_read table) heads)
     says.known.classes all in
     subst (λ (names : Table). HaveNoArguments names d.classes) (sym says.declared)
     (subst (HaveNoArguments table) (sym says.classes) read)
 
--- so have the heads that a class of the file lists, whatever numbers they have
-pub listed_constant : (names table : Table) (classes : List (List Head)) → HaveNoArguments names (read_classes table classes)
-    → (class : ℕ) (h : Head) → 4 ≤ class → IsTrue (in_class_of classes class h) → arity_in names (read_head table h) ≡ 0
-listed_constant names table classes all class h past is =
-    let NoArguments : Head → Type 0 = λ g. arity_in names (read_head table g) ≡ 0 in
-    let numbered : AllByRecursion (λ (heads : List Head). AllByRecursion NoArguments heads) classes =
-    all_unmapped (λ (heads : List Head). AllByRecursion NoArguments heads) (λ (heads : List ReadHead). AllByRecursion (λ (g : ReadHead). arity_in names g ≡ 0) heads)
-    (λ (heads : List Head). map (read_head table) heads)
-    (λ heads. all_unmapped NoArguments (λ (g : ReadHead). arity_in names g ≡ 0) (read_head table) (λ g none. none) heads)
-    classes all in
-    all_contained NoArguments (members_of classes class) h
-    (all_or (λ (heads : List Head). AllByRecursion NoArguments heads) classes (class - 4) [] numbered tt)
-    ((listed_class same_head same_head_decides in_symbol_class classes class h past).0 is)
+-- ---- the heads of classes
+
+-- a number below 2 is that of a truth value, which has no arguments
+truth_arity : (table : Table) (s : ℕ) → s < 2 → declared_arity table (reading.symbol s) ≡ 0
+truth_arity table zero lt = refl
+truth_arity table (suc zero) lt = refl
+truth_arity table (suc (suc s)) lt = absurd (omega (arith, lt))
+
+second_true : (a b : Bool) → IsTrue (a && b) → IsTrue b
+second_true true b is = is
+second_true false b is = cc
+
+below_two : (s : ℕ) → IsTrue (nat_lt s 2) → s < 2
+below_two s is = search rules
+
+-- the heads of symbol classes have no arguments
+symbol_constants : (table : Table) (class : ℕ) (h : ReadHead) → IsTrue (in_read_symbol_class class h) → declared_arity table h ≡ 0
+symbol_constants table class (reading.symbol s) is = truth_arity table s (below_two s (second_true (class == class_number TruthValues) (nat_lt s 2) is))
+symbol_constants table class (reading.numeral i) is = refl
+symbol_constants table class (reading.atom n) is = refl
+symbol_constants table class (reading.text n) is = refl
+
+-- nor have those of the classes of a file, where its members have none
+pub class_constants : (table : Table) (classes : List (List ReadHead)) → HaveNoArguments table classes → (class : ℕ) (h : ReadHead) → IsTrue (in_read_class classes class h) → declared_arity table h ≡ 0
+class_constants table classes none class h is =
+    elim (cases_lt class 4) [
+      | inl below ↦ symbol_constants table class h (sym (symbol_class same_read_head same_read_head_decides in_read_symbol_class classes class h below) ∙ is)
+      | inr past ↦
+          let NoArguments : ReadHead → Type 0 = λ g. declared_arity table g ≡ 0 in
+          all_contained NoArguments (members_of classes class) h
+          (all_or (λ (heads : List ReadHead). AllByRecursion NoArguments heads) classes (class - 4) [] none tt)
+          ((listed_class same_read_head same_read_head_decides in_read_symbol_class classes class h past).0 is)
+    ]
+
+-- ---- heads by their numbers
+
+-- the members of a class as they are read
+members_read : (table : Table) (classes : List (List Head)) (n : ℕ) → slice_index_or (read_classes table classes) n [] ≡ map (read_head table) (slice_index_or classes n [])
+members_read table [] n = refl
+members_read table (heads ∷ classes) zero = refl
+members_read table (heads ∷ classes) (suc n) = members_read table classes n
+
+symbol_read : (table : Table) (class : ℕ) (h : Head) → in_read_symbol_class class (read_head table h) ≡ in_symbol_class class h
+symbol_read table class (head.Symbol s) = refl
+symbol_read table class (head.Numeral i) = refl
+symbol_read table class (head.Atom a) = refl
+symbol_read table class (head.Text t) = refl
+
+-- a head belongs to the same classes as it is read
+pub class_read : (table : Table) (classes : List (List Head)) (class : ℕ) (h : Head) → IsTrue (in_class_of classes class h) → IsTrue (in_read_class (read_classes table classes) class (read_head table h))
+class_read table classes class h is =
+    elim (cases_lt class 4) [
+      | inl below ↦
+          symbol_class same_read_head same_read_head_decides in_read_symbol_class (read_classes table classes) class (read_head table h) below
+          ∙ symbol_read table class h
+          ∙ sym (symbol_class same_head same_head_decides in_symbol_class classes class h below)
+          ∙ is
+      | inr past ↦
+          let listed = (listed_class same_head same_head_decides in_symbol_class classes class h past).0 is in
+          (listed_class same_read_head same_read_head_decides in_read_symbol_class (read_classes table classes) class (read_head table h) past).1
+          (subst (λ heads. Contains heads (read_head table h)) (sym (members_read table classes (class - 4))) (contains_map (read_head table) (members_of classes class) h listed))
+    ]

@@ -1,0 +1,12 @@
+-- Where an equation fits.
+use Rattle.std.specs.Prelude.{◌≡◌, ℕ, Some, slice_get}
+use Rattle.eq_base.specs.Tree.{Tree}
+use Rattle.eq_base.specs.Pattern.{IsInstanceOf}
+use Rattle.eq_base.specs.ReadHead.{ReadHead}
+use Rattle.eq_base.specs.Rewriting.{Rule, System}
+
+-- the term is an instance of the left side of the rule with this number
+pub record FitsAt (system : System ReadHead) (e : ℕ) (t : Tree ReadHead) : Type 0 where
+  pub rule : Rule ReadHead
+  pub listed : slice_get system.rules e ≡ Some rule
+  pub fits : IsInstanceOf system.in_class rule.left t
