@@ -35,7 +35,7 @@ module _ {A : Type 0} where
       let c = same_cut xs ys zs ws rest (omega (arith, n)) in
       (subst (λ y. x ∷ xs ≡ y ∷ zs) head (ap (λ y. x ∷ y) c.0), c.1)
 
-  length-append : (xs ys : List A) → length (xs ++ ys) ≡ length xs + length ys
+  pub length-append : (xs ys : List A) → length (xs ++ ys) ≡ length xs + length ys
   length-append [] ys = omega arith
   length-append (x ∷ xs) ys = let z = length-append xs ys in omega (arith, z)
 
