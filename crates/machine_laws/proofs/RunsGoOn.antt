@@ -1,5 +1,5 @@
 -- Stores of a run, and how it goes on after a replacement.
-use Rattle.std.proofs.Common.{◌≡◌, ℕ, suc, List, [], ◌++◌, Some, refl, sym, ap, subst}
+use Rattle.std.proofs.Common.{◌≡◌, ℕ, suc, List, [], ◌++◌, Some, refl, subst}
 use Rattle.std.specs.Prelude.{slice_get}
 use Rattle.eq_base.specs.Tree.{empty, grow}
 use Rattle.eq_base.specs.Rewriting.{System, IsRedex}
