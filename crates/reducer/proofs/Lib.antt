@@ -12,3 +12,5 @@ mod AmongLaws
 mod FoundAbove
 mod Judging
 mod ReadAt
+mod StandsThere
+mod SearchLoop

@@ -239,18 +239,18 @@ module _ (system : System ReadHead) (table : Table) (sets : List ItemSet) where
         next = among outer inner l passed behind next;
         stands = record {
           place = (
-          record { node = at.node; next = at.next + 1; state = at.state },
-          after,
-          record {
-            here = here;
-            is_among = one_passed trees at.node at.next l before behind t is.is_among;
-            set = set;
-            stacks = record {
-              within = subst (λ z. AreAbove trees (reverse z) inner (node l (join passed behind))) (sym ins) (subst (λ z. AreAbove trees (reverse old.inner.items) inner (node l z)) e is.stacks.within);
-              above = subst (λ z. AreAbove trees (reverse z) outer (plug inner (node l (join passed behind)))) (sym outs) (subst (λ z. AreAbove trees (reverse old.outer.items) outer (plug inner (node l z))) e is.stacks.above);
-              begun = subst (λ z. IsNode trees z (plug inner (node l (join passed behind)))) (sym begun) (subst (λ z. IsNode trees old.begun (plug inner (node l z))) e is.stacks.begun);
-            };
-          },
+            record { node = at.node; next = at.next + 1; state = at.state },
+            after,
+            record {
+              here = here;
+              is_among = one_passed trees at.node at.next l before behind t is.is_among;
+              set = set;
+              stacks = record {
+                within = subst (λ z. AreAbove trees (reverse z) inner (node l (join passed behind))) (sym ins) (subst (λ z. AreAbove trees (reverse old.inner.items) inner (node l z)) e is.stacks.within);
+                above = subst (λ z. AreAbove trees (reverse z) outer (plug inner (node l (join passed behind)))) (sym outs) (subst (λ z. AreAbove trees (reverse old.outer.items) outer (plug inner (node l z))) e is.stacks.above);
+                begun = subst (λ z. IsNode trees z (plug inner (node l (join passed behind)))) (sym begun) (subst (λ z. IsNode trees old.begun (plug inner (node l z))) e is.stacks.begun);
+              };
+            },
           );
           states = (
             subst (λ z. KeepStates system table trees sets (reverse z) inner) (sym ins) was.states.0,
@@ -278,18 +278,18 @@ module _ (system : System ReadHead) (table : Table) (sets : List ItemSet) where
         next = among outer inner l empty args next;
         stands = record {
           place = (
-          record { node = number; next = 0; state = state },
-          after,
-          record {
-            here = here;
-            is_among = record { is_node = is.is_node; many = refl };
-            set = set;
-            stacks = record {
-              within = subst (λ z. AreAbove trees (reverse z) inner (node l args)) (sym ins) is.stacks.within;
-              above = subst (λ z. AreAbove trees (reverse z) outer (plug inner (node l args))) (sym outs) is.stacks.above;
-              begun = subst (λ z. IsNode trees z (plug inner (node l args))) (sym begun) is.stacks.begun;
-            };
-          },
+            record { node = number; next = 0; state = state },
+            after,
+            record {
+              here = here;
+              is_among = record { is_node = is.is_node; many = refl };
+              set = set;
+              stacks = record {
+                within = subst (λ z. AreAbove trees (reverse z) inner (node l args)) (sym ins) is.stacks.within;
+                above = subst (λ z. AreAbove trees (reverse z) outer (plug inner (node l args))) (sym outs) is.stacks.above;
+                begun = subst (λ z. IsNode trees z (plug inner (node l args))) (sym begun) is.stacks.begun;
+              };
+            },
           );
           states = (
             subst (λ z. KeepStates system table trees sets (reverse z) inner) (sym ins) was.states,

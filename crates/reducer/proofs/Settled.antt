@@ -19,7 +19,7 @@ use Rattle.machine_laws.specs.Ways.{plain_all, plain_frames}
 use Rattle.machine_laws.specs.ReadTrees.{with_heads}
 use Rattle.reducer.specs.Standing.{IsNode, AreAbove}
 use Rattle.reducer.specs.Turning.{read_label, read_forest, read_frames}
-use Rattle.reducer.specs.Coming.{AreSettled}
+use Rattle.reducer.specs.Coming.{IsSettled, AreSettled}
 use Rattle.reducer.specs.Nodes.{HasNode, IsWithNode, HasOnlyWith}
 use Rattle.reducer.specs.declared.machine.Above.{Above}
 use Rattle.reducer.proofs.Passed.{join-join, map-join}
@@ -27,10 +27,10 @@ use Rattle.reducer.proofs.Passed.{join-join, map-join}
 -- one node of a stack more
 pub one_more_node : (old now new : List Bool) (above : List Above) (i : ℕ) (d : Above) → i < length above → HasOnlyWith old (map (λ a. a.node) above) now → IsWithNode now (slice_index_or above i d).node new → HasOnlyWith old (map (λ a. a.node) above) new
 one_more_node old now new above i d lt only one n has = elim ((one n).0 has) [
-    | inl before ↦ only n before
-    | inr e ↦ inr (subst (Contains (map (λ a. a.node) above)) (get_or-map (λ a. a.node) above i d ∙ sym e)
-    (Contains-get_or (map (λ a. a.node) above) i d.node (subst (λ z. i < z) (sym (length-map above (λ a. a.node))) lt)))
-  ]
+  | inl before ↦ only n before
+  | inr e ↦ inr (subst (Contains (map (λ a. a.node) above)) (get_or-map (λ a. a.node) above i d ∙ sym e)
+      (Contains-get_or (map (λ a. a.node) above) i d.node (subst (λ z. i < z) (sym (length-map above (λ a. a.node))) lt)))
+]
 
 -- what holds of all, the last one first, holds of all
 pub all_back : {X : Type 0} (P : X → Type 0) (xs : List X) → All P (reverse xs) → All P xs
@@ -40,27 +40,26 @@ all_back P (x ∷ xs) all =
     All-cons P x xs both.1 (all_back P xs both.0)
 
 module _ (system : System ReadHead) (table : Table) (trees : List (Numbered Head)) where
-  -- the tree of the node has no demanded redex
-  abbrev pub IsSettled : ℕ → Type 0
-  IsSettled n = (t : Numbered Head) → slice_get trees n ≡ Some t → HasNoDemandedRedex system (plain (with_heads (read_head table) t))
+  pub settled_node : (n : ℕ) (t : Numbered Head) → IsNode trees n t → HasNoDemandedRedex system (plain (with_heads (read_head table) t)) → IsSettled system table trees n
+  settled_node n t is none = (t, is.stands, none)
 
-  pub settled_node : (n : ℕ) (t : Numbered Head) → IsNode trees n t → HasNoDemandedRedex system (plain (with_heads (read_head table) t)) → IsSettled n
-  settled_node n t is none u there =
-      subst (λ z. HasNoDemandedRedex system (plain (with_heads (read_head table) z))) (some_same t u (sym is.stands ∙ there)) none
+  -- a settled node's tree
+  pub settled_tree : (n : ℕ) (t : Numbered Head) → IsNode trees n t → IsSettled system table trees n → HasNoDemandedRedex system (plain (with_heads (read_head table) t))
+  settled_tree n t is s = subst (λ z. HasNoDemandedRedex system (plain (with_heads (read_head table) z))) (some_same s.0 t (sym s.1 ∙ is.stands)) s.2
 
   -- with one settled node more
-  pub with_settled : (old new : List Bool) (n : ℕ) → AreSettled system table trees old → IsSettled n → IsWithNode old n new → AreSettled system table trees new
-  with_settled old new n settled none one k t there has = elim ((one k).0 has) [
-      | inl before ↦ settled k t there before
-      | inr e ↦ none t (subst (λ z. slice_get trees z ≡ Some t) e there)
-    ]
+  pub with_settled : (old new : List Bool) (n : ℕ) → AreSettled system table trees old → IsSettled system table trees n → IsWithNode old n new → AreSettled system table trees new
+  with_settled old new n settled none one k has = elim ((one k).0 has) [
+    | inl before ↦ settled k before
+    | inr e ↦ subst (IsSettled system table trees) (sym e) none
+  ]
 
   -- with settled nodes of a stack
-  pub with_all_settled : (old new : List Bool) (above : List Above) → AreSettled system table trees old → All (λ a. IsSettled a.node) above → HasOnlyWith old (map (λ a. a.node) above) new → AreSettled system table trees new
-  with_all_settled old new above settled none only k t there has = elim (only k has) [
-      | inl before ↦ settled k t there before
-      | inr on ↦ All-contains IsSettled (map (λ a. a.node) above) k (All-map IsSettled (λ a. a.node) above none) on t there
-    ]
+  pub with_all_settled : (old new : List Bool) (above : List Above) → AreSettled system table trees old → All (λ a. IsSettled system table trees a.node) above → HasOnlyWith old (map (λ a. a.node) above) new → AreSettled system table trees new
+  with_all_settled old new above settled none only k has = elim (only k has) [
+    | inl before ↦ settled k before
+    | inr on ↦ All-contains (IsSettled system table trees) (map (λ a. a.node) above) k (All-map (IsSettled system table trees) (λ a. a.node) above none) on
+  ]
 
   first_around : {H : Type 0} (P : Tree H → Type 0) (frames : List (Frame H)) (t : Tree H) → AllAround P frames t → P t
   first_around P [] t all = all
@@ -76,12 +75,12 @@ module _ (system : System ReadHead) (table : Table) (trees : List (Numbered Head
   -- the nodes on a stack are settled, where all trees around are
   pub all_on_way : (above : List Above) (frames : List (Frame (Head × ℕ))) (t : Numbered Head) → AreAbove trees above frames t
       → AllAround (HasNoDemandedRedex system) (plain_frames (read_frames table frames)) (plain (with_heads (read_head table) t))
-      → All (λ a. IsSettled a.node) above
-  all_on_way [] frames t are all = All-nil (λ a. IsSettled a.node)
+      → All (λ a. IsSettled system table trees a.node) above
+  all_on_way [] frames t are all = All-nil (λ a. IsSettled system table trees a.node)
   all_on_way (a ∷ above) [] t are all = elim are [ ]
   all_on_way (a ∷ above) (f ∷ frames) t are all =
       let rest = subst (AllAround (HasNoDemandedRedex system) (plain_frames (read_frames table frames))) (sym (read-around f t)) all.1 in
-      All-cons (λ a. IsSettled a.node) a above
+      All-cons (λ a. IsSettled system table trees a.node) a above
       (settled_node a.node (around f t) (subst (λ z. IsNode trees a.node (node f.head z)) (join-join f.before (grow t empty) f.behind) are.0.is_node)
       (first_around (HasNoDemandedRedex system) (plain_frames (read_frames table frames)) (plain (with_heads (read_head table) (around f t))) rest))
       (all_on_way above frames (around f t) are.1 rest)
@@ -93,7 +92,7 @@ module _ (system : System ReadHead) (table : Table) (trees : List (Numbered Head
       → HasOnlyWith old (map (λ a. a.node) items) now → IsWithNode now number new → AreSettled system table trees new
   way_is_settled old now new items number frames t settled is above all only one =
       with_settled now new number
-      (with_all_settled old now items settled (all_back (λ a. IsSettled a.node) items (all_on_way (reverse items) frames t above all)) only)
+      (with_all_settled old now items settled (all_back (λ a. IsSettled system table trees a.node) items (all_on_way (reverse items) frames t above all)) only)
       (settled_node number t is (first_around (HasNoDemandedRedex system) (plain_frames (read_frames table frames)) (plain (with_heads (read_head table) t)) all)) one
 
   -- the tree below the frames, as it is read, without numbers

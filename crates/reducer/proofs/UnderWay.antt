@@ -24,7 +24,6 @@ use Rattle.reducer.specs.declared.machine.Machine.{Machine}
 use Rattle.reducer.proofs.WhereHere.{at_arriving, at_reading, at_among, at_turning}
 use Rattle.reducer.proofs.Worked.{turns_are}
 
-
 module _ (system : System ReadHead) (table : Table) (trees : List (Numbered Head)) where
   -- the run has led a turn further
   pub turned_on : (root : ℕ) (first : List (Numbered ReadHead)) (n : ℕ) (p q : Place ReadHead)

@@ -6,6 +6,7 @@ use Rattle.eq_base.specs.Tree.{Tree, Forest, node, empty, grow, count, args_of, 
 use Rattle.eq_base.specs.Storing.{join}
 use Rattle.eq_base.specs.declared.head.Head.{Head}
 use Rattle.eq_base.specs.declared.head.Head.TheVariants.{Symbol}
+use Rattle.eq_base.proofs.Trees.{size-map_heads}
 use Rattle.symbol_table.specs.Table.{Table}
 use Rattle.symbol_table.specs.Reading.{read_head}
 use Rattle.match_laws.specs.Items.{ItemSet}
@@ -23,24 +24,19 @@ use Rattle.reducer.proofs.Passed.{map-join}
 use Rattle.reducer.proofs.ReadOn.{read-plug}
 
 module _ {A B : Type 0} (f : A → B) where
-  mutual
-    size-mapped : (t : Tree A) → size (map_heads f t) ≡ size t
-    size-mapped (node a args) = ap suc (total_size-mapped args)
-
-    total_size-mapped : (ts : Forest A) → total_size (map_all_heads f ts) ≡ total_size ts
-    total_size-mapped empty = refl
-    total_size-mapped (grow t ts) = omega (arith, size-mapped t, total_size-mapped ts)
+  total_size-mapped : (a : A) (ts : Forest A) → total_size (map_all_heads f ts) ≡ total_size ts
+  total_size-mapped a ts = omega (arith, size-map_heads f (node a ts))
 
   mutual
     arrive_work-mapped : (t : Tree A) → arrive_work (map_heads f t) ≡ arrive_work t
-    arrive_work-mapped (node a args) = omega (arith, total_size-mapped args, turn_work-mapped args)
+    arrive_work-mapped (node a args) = omega (arith, total_size-mapped a args, turn_work-mapped args)
 
     turn_work-mapped : (ts : Forest A) → turn_work (map_all_heads f ts) ≡ turn_work ts
     turn_work-mapped empty = refl
     turn_work-mapped (grow t ts) = omega (arith, arrive_work-mapped t, turn_work-mapped ts)
 
   read_work-mapped : (t : Tree A) → read_work (map_heads f t) ≡ read_work t
-  read_work-mapped (node a args) = omega (arith, total_size-mapped args)
+  read_work-mapped (node a args) = omega (arith, total_size-mapped a args)
 
   args_work-mapped : (t : Tree A) → turn_work (args_of (map_heads f t)) ≡ turn_work (args_of t)
   args_work-mapped (node a args) = turn_work-mapped args
@@ -70,7 +66,7 @@ module _ (table : Table) (trees : List (Numbered Head)) where
   inner_are [] (f ∷ frames) t are = elim are [ ]
   inner_are (a ∷ above) [] t are = elim are [ ]
   inner_are (a ∷ above) (f ∷ frames) t are =
-      omega (arith, ap total_size (rest_is a.node a.next f.head (join f.before (grow t empty)) f.behind are.0), total_size-mapped (read_label table) f.behind, inner_are above frames (around f t) are.1)
+      omega (arith, ap total_size (rest_is a.node a.next f.head (join f.before (grow t empty)) f.behind are.0), total_size-mapped (read_label table) f.head f.behind, inner_are above frames (around f t) are.1)
 
   begun_are : (begun : ℕ) (inner : List (Frame (Head × ℕ))) (t : Numbered Head) → IsNode trees begun (plug inner t)
       → turn_work (args_of (tree_of trees begun)) ≡ turn_work (args_of (plug (read_frames table inner) (with_heads (read_head table) t)))
@@ -88,10 +84,15 @@ module _ (table : Table) (trees : List (Numbered Head)) where
   turns_are sets machine (among outer inner l before behind items) (at, state, is) =
       let whole : Numbered Head = node l (join before behind) in
       ap (turns_from trees (reverse machine.outer.items) (reverse machine.inner.items) machine.begun) is.here
-      ∙ omega (arith, ap total_size (rest_is at.node at.next l before behind is.is_among), total_size-mapped (read_label table) behind, inner_are (reverse machine.inner.items) inner whole is.stacks.within,
-      begun_are machine.begun inner whole is.stacks.begun
-      ∙ ap (λ z. turn_work (args_of (plug (read_frames table inner) (node (read_label table l) z)))) (map-join (read_label table) before behind),
-      outer_are (reverse machine.outer.items) outer (plug inner whole) is.stacks.above)
+      ∙ omega (
+        arith,
+        ap total_size (rest_is at.node at.next l before behind is.is_among),
+        total_size-mapped (read_label table) l behind,
+        inner_are (reverse machine.inner.items) inner whole is.stacks.within,
+        begun_are machine.begun inner whole is.stacks.begun
+            ∙ ap (λ z. turn_work (args_of (plug (read_frames table inner) (node (read_label table l) z)))) (map-join (read_label table) before behind),
+        outer_are (reverse machine.outer.items) outer (plug inner whole) is.stacks.above,
+      )
   turns_are sets machine (turning outer l before behind) (n, passed, is) =
       ap (turns_from trees (reverse machine.outer.items) (reverse machine.inner.items) machine.begun) is.here
       ∙ omega (arith, ap turn_work (rest_is n passed l before behind is.is_among), turn_work-mapped (read_label table) behind, outer_are (reverse machine.outer.items) outer (node l (join before behind)) is.above)

@@ -34,10 +34,14 @@ pub record HasLed (system : System ReadHead) (root : ℕ) (first : List (Numbere
   pub run : MachineRun system first (arriving [] begun) n trees p
 
 module _ (system : System ReadHead) (table : Table) (trees : List (Numbered Head)) where
-  -- the nodes with a bit have no demanded redex
+  -- the node is one of the store, and has no demanded redex
+  abbrev pub IsSettled : ℕ → Type 0
+  IsSettled n = (t : Numbered Head) × (slice_get trees n ≡ Some t)
+      × HasNoDemandedRedex system (plain (with_heads (read_head table) t))
+
+  -- so are all nodes with a bit
   abbrev pub AreSettled : List Bool → Type 0
-  AreSettled bits = (n : ℕ) (t : Numbered Head) → slice_get trees n ≡ Some t → slice_index_or bits n false ≡ true
-      → HasNoDemandedRedex system (plain (with_heads (read_head table) t))
+  AreSettled bits = (n : ℕ) → slice_index_or bits n false ≡ true → IsSettled n
 
   module _ (sets : List ItemSet) where
     -- the state is that of the item set with which a reading comes to the node below these frames

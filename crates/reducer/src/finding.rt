@@ -34,8 +34,8 @@ impl Machine {
     pub(crate) fn found_at(&self, number: usize, state: usize, done: Completed) -> Found
         requires { done.height ≤ vec_len self.now.inner }
         ensures above { (system : System ReadHead) (table : Table) (trees : List (Numbered Head))
-            (sets : List ItemSet) (outer inner : List (Frame (Head × ℕ))) (t : Numbered Head) (items : ItemSet)
-            → IsReading trees sets self.now number state outer inner t items
+            (sets : List ItemSet) (outer inner : List (Frame (Head × ℕ))) (t : Numbered Head)
+            (items : ItemSet) → IsReading trees sets self.now number state outer inner t items
             → StandsAt system table trees sets self.now (reading outer inner t items)
             → HasComeWith system table trees sets inner state
             → IsFoundAbove system table trees sets inner t done.height result }
@@ -59,8 +59,8 @@ impl Machine {
         }
     }
 
-    // Answers the node where a left side fits that is completed at this one, if its equation has a value there.
-    // If not, no node on the way has a demanded redex, and the reading is over.
+    // Answers the node where a left side fits that is completed at this one, if its equation has a value
+    // there. If not, no node on the way has a demanded redex, and the reading is over.
     pub(crate) fn judge(
         &mut self,
         regular: &Regular,
@@ -173,6 +173,7 @@ impl Machine {
         ensures spare { store.new.spare ≡ store.old.spare }
         ensures now_marked { AreMarkedNormal (read_system symbols.now regular.now) symbols.now store.new }
     {
+        // A table has one number for each name, as any look-up tells.
         let _ = symbols.included(0);
         while !matches!(self.here, Here::Ended(_)) {
             if let Some(found) = self.step(regular, states, symbols, store)? {

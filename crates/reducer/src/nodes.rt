@@ -51,7 +51,8 @@ impl NodeSet {
     /// Out of memory; the set is as it was.
     pub fn insert(&mut self, node: usize) -> Result<(), NoMemory>
         ensures ok { OnOk result (IsWithNode self.old node self.new) }
-        ensures err { OnErr result ((n : ℕ) → slice_index_or self.new n false ≡ slice_index_or self.old n false) }
+        ensures err { OnErr result ((n : ℕ)
+            → slice_index_or self.new n false ≡ slice_index_or self.old n false) }
     {
         while self.bits.len() <= node {
             self.bits.push(false)?;

@@ -50,8 +50,8 @@ pub(crate) fn settle_all(settled: &mut NodeSet, above: &[Above]) -> Result<(), N
 }
 
 impl Machine {
-    // Ends a reading without a redex: the node and those on the way to it are settled, and the arguments of the
-    // node where the reading began are normalised next.
+    // Ends a reading without a redex: the node and those on the way to it are settled, and the arguments of
+    // the node where the reading began are normalised next.
     pub(crate) fn end_reading(&mut self, number: usize) -> Result<(), NoMemory>
         ensures { OnOk result ((system : System ReadHead) (table : Table) (trees : List (Numbered HeadValue))
             (sets : List ItemSet) (outer inner : List (Frame (HeadValue × ℕ))) (t : Numbered HeadValue)
@@ -124,7 +124,8 @@ impl Machine {
             → AreLive table rules → S.are_of states.old rules → (trees : List (Numbered HeadValue))
             (outer inner : List (Frame (HeadValue × ℕ))) (l : HeadValue × ℕ)
             (before behind : Forest (HeadValue × ℕ)) (t : Numbered HeadValue) (items : ItemSet)
-            → IsReadAmong trees (S.sets states.old) self.old at state outer inner l before (grow t behind) items
+            → IsReadAmong trees (S.sets states.old) self.old at state outer inner l before (grow t behind)
+            items
             → StandsAt (read_system table rules) table trees (S.sets states.old) self.old
             (among outer inner l before (grow t behind) items)
             → WantsSkip (left_sides_of rules) items
@@ -158,15 +159,16 @@ impl Machine {
             → AreLive table rules → S.are_of states.old rules
             → (outer inner : List (Frame (HeadValue × ℕ))) (l : HeadValue × ℕ) (args : Forest (HeadValue × ℕ))
             (items : ItemSet)
-            → IsReading store.now.trees (S.sets states.old) self.old number state outer inner (node l args) items
+            → IsReading store.now.trees (S.sets states.old) self.old number state outer inner (node l args)
+            items
             → StandsAt (read_system table rules) table store.now.trees (S.sets states.old) self.old
             (reading outer inner (node l args) items)
             → IsLiveHead table l.0
             → HasComeWith (read_system table rules) table store.now.trees (S.sets states.old) inner state
             → MatchOption done (LeadsOn (read_system table rules) table store.now.trees (S.sets states.new)
             self.new (reading outer inner (node l args) items))
-            (λ c. IsFirstCompleted (read_system table rules).in_class (left_sides (read_system table rules)) items
-            (read_head table l.0) c.equation c.height)) }
+            (λ c. IsFirstCompleted (read_system table rules).in_class (left_sides (read_system table rules))
+            items (read_head table l.0) c.equation c.height)) }
         ensures stays { IfOk result (λ done. MatchOption done (Unit {0}) (λ c. self.new ≡ self.old)) }
         ensures are_of { (rules : RuleList) → S.are_of states.old rules → S.are_of states.new rules }
         ensures extends { (rules : RuleList) → S.are_of states.old rules

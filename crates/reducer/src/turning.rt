@@ -36,8 +36,8 @@ impl Machine {
         requires next { passed < arity_of (term_at store.now number) }
         requires few { passed < 255 }
         ensures { OnOk result ((system : System ReadHead) (table : Table) (sets : List ItemSet)
-            (outer : List (Frame (HeadValue × ℕ))) (l : HeadValue × ℕ) (before behind : Forest (HeadValue × ℕ))
-            (t : Numbered HeadValue)
+            (outer : List (Frame (HeadValue × ℕ))) (l : HeadValue × ℕ)
+            (before behind : Forest (HeadValue × ℕ)) (t : Numbered HeadValue)
             → IsTurning store.now.trees self.old number passed outer l before (grow t behind)
             → AreSettled system table store.now.trees self.old.settled
             → LeadsOn system table store.now.trees sets self.new (turning outer l before (grow t behind))) }
@@ -60,8 +60,8 @@ impl Machine {
             → AreSettled system table trees self.old.settled
             → LeadsOn system table trees sets self.new (turning outer l before empty) }
         ensures arrived { (system : System ReadHead) (table : Table) (sets : List ItemSet)
-            (trees : List (Numbered HeadValue)) (outer : List (Frame (HeadValue × ℕ))) (t : Numbered HeadValue)
-            → IsArriving trees self.old number outer t → AreSettled system table trees self.old.settled
+            (trees : List (Numbered HeadValue)) (outer : List (Frame (HeadValue × ℕ)))
+            (t : Numbered HeadValue) → IsArriving trees self.old number outer t → AreSettled system table trees self.old.settled
             → IsNormal system (plain (with_heads (read_head table) t))
             → LeadsOn system table trees sets self.new (arriving outer t) }
     {
@@ -83,8 +83,8 @@ impl Machine {
         self.here = Here::Reading(number, states.start());
     }
 
-    // Comes to a node that is to be normalised: a marked one is normal, and of a settled one the arguments are
-    // normalised. The others are read.
+    // Comes to a node that is to be normalised: a marked one is normal, and of a settled one the arguments
+    // are normalised. The others are read.
     pub(crate) fn arrive<S: States>(&mut self, store: &Store, states: &S, number: usize)
         requires node { number < length store.now.trees }
         requires here { self.old.here ≡ Arriving number }

@@ -21,7 +21,8 @@ pub(crate) fn has_value(
     requires live { AreLive symbols.now regular.now }
     requires live_store { AreLiveTrees symbols.now store.now.trees }
     requires node { node < length store.now.trees }
-    requires fits { FitsAt (read_system symbols.now regular.now) equation (read symbols.now (term_at store.now node)) }
+    requires fits { FitsAt (read_system symbols.now regular.now) equation
+        (read symbols.now (term_at store.now node)) }
     ensures { IsTrue result ↔ IsRedexBy (read_system symbols.now regular.now) equation
         (read symbols.now (term_at store.now node)) }
 {

@@ -1,5 +1,6 @@
 use Rattle.std.proofs.Common.{sym, refl, ◌∙◌, false}
 use Rattle.symbol_table.specs.Reading.{read_system}
+use Rattle.reducer.proofs.Settled.{settled_tree}
 use Rattle.reducer.proofs.Turned.{arrives_settled}
 use Rattle.reducer.proofs.UnderWay.{from_arriving}
 use Rattle.reducer.proofs.machine.Machine.arrive.Goals as goal
@@ -18,7 +19,7 @@ returns-then-has g c = λ table rules can are.
     let sets = g.S.States.sets c.args.states.now in
     from_arriving (read_system table rules) table trees sets sets c.args.self.now _ c.args.number c.requires.here
     (λ outer t is was. arrives_settled (read_system table rules) table sets trees c.args.self.now _ c.args.number outer t is
-    (was.settled c.args.number t is.is_node.stands (sym c.has.ensures ∙ c.if-has.true)) refl refl refl was.settled)
+    (settled_tree (read_system table rules) table trees c.args.number t is.is_node (was.settled c.args.number (sym c.has.ensures ∙ c.if-has.true))) refl refl refl was.settled)
 
 pub returns-else-has : goal.returns-else-has
 returns-else-has g c = λ table rules can are.

@@ -11,18 +11,18 @@ returns g c = λ rules tabled system table trees outer t arrives settled.
       next = reading outer [] t [];
       stands = record {
         place = (
-        c.args.number,
-        c.start.result,
-        record {
-          here = refl;
-          is_node = arrives.is_node;
-          set = c.start.ensures rules tabled;
-          stacks = record {
-            within = subst (λ z. AreAbove trees (reverse z) [] t) (sym arrives.alone) tt;
-            above = arrives.above;
-            begun = arrives.is_node;
-          };
-        },
+          c.args.number,
+          c.start.result,
+          record {
+            here = refl;
+            is_node = arrives.is_node;
+            set = c.start.ensures rules tabled;
+            stacks = record {
+              within = subst (λ z. AreAbove trees (reverse z) [] t) (sym arrives.alone) tt;
+              above = arrives.above;
+              begun = arrives.is_node;
+            };
+          },
         );
         states = subst (λ z. KeepStates system table trees (g.S.States.sets c.args.states.now) (reverse z) []) (sym arrives.alone) tt;
         settled = settled;

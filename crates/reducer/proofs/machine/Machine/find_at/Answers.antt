@@ -15,11 +15,11 @@ judge-requires-clause-run g c =
       on.first,
       on.made,
       subst (λ z. HasCompleted system c.args.symbols.now c.args.store.now.trees (g.S.States.sets c.read.new.states) on.root on.first on.made z c.args.number c.args.state c.in-Some.done) (sym same)
-      (completes system c.args.symbols.now c.args.store.now.trees (g.S.States.sets c.args.states.now) (g.S.States.sets c.read.new.states) c.args.self.now c.args.number c.args.state c.requires.search.trees c.read.new.self c.in-Some.done
-      (c.in_ok-read.ensures.extends c.args.regular.now c.requires.sets) c.requires.here
-      (subst (λ z. Answers system c.args.symbols.now c.args.store.now.trees (g.S.States.sets c.args.states.now) (g.S.States.sets c.read.new.states) c.args.self.now c.read.new.self c.args.number c.args.state z) c.in-Some.is
-      (c.in_ok-read.ensures.ok c.args.symbols.now c.requires.search.distinct c.args.regular.now c.requires.search.live c.requires.sets))
-      on.root on.first on.made on.under_way),
+          (completes system c.args.symbols.now c.args.store.now.trees (g.S.States.sets c.args.states.now) (g.S.States.sets c.read.new.states) c.args.self.now c.args.number c.args.state c.requires.search.trees c.read.new.self c.in-Some.done
+          (c.in_ok-read.ensures.extends c.args.regular.now c.requires.sets) c.requires.here
+          (subst (λ z. Answers system c.args.symbols.now c.args.store.now.trees (g.S.States.sets c.args.states.now) (g.S.States.sets c.read.new.states) c.args.self.now c.read.new.self c.args.number c.args.state z) c.in-Some.is
+          (c.in_ok-read.ensures.ok c.args.symbols.now c.requires.search.distinct c.args.regular.now c.requires.search.live c.requires.sets))
+          on.root on.first on.made on.under_way),
     )
 
 pub returns-in-None-clause-ok : goal.returns-in-None-clause-ok

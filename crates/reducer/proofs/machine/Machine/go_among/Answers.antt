@@ -1,6 +1,6 @@
-use Rattle.std.proofs.Common.{arith, sym, subst, ◌<◌, ◌≡◌}
+use Rattle.std.proofs.Common.{arith, subst, ◌<◌, ◌≡◌}
 use Rattle.std.proofs.lemmas.Result.{on_ok_weaker}
-use Rattle.eq_base.specs.Tree.{arity_of, node, grow}
+use Rattle.eq_base.specs.Tree.{arity_of, node}
 use Rattle.eq_base.specs.Storing.{join}
 use Rattle.symbol_table.specs.Reading.{read_system}
 use Rattle.term_graph.specs.Graph.{term_at}
@@ -9,7 +9,7 @@ use Rattle.machine_laws.specs.Places.{among}
 use Rattle.reducer.specs.Standing.{IsReadAmong}
 use Rattle.reducer.specs.Coming.{StandsAt, LeadsOn}
 use Rattle.reducer.proofs.AmongLaws.{passed_here, over_here, none_left}
-use Rattle.reducer.proofs.Passed.{none_behind, some_behind}
+use Rattle.reducer.proofs.Passed.{some_behind}
 use Rattle.reducer.proofs.ReadOn.{goes_over}
 use Rattle.reducer.proofs.UnderWay.{from_among}
 use Rattle.reducer.proofs.machine.Machine.go_among.Goals as goal

@@ -1,4 +1,4 @@
-use Rattle.std.proofs.Common.{List, ℕ, refl, sym, subst, take}
+use Rattle.std.proofs.Common.{refl, subst, take}
 use Rattle.std.specs.Prelude.{◌≡◌, ◌++◌, ◌+◌, ◌-◌, option_to_list, MatchOption, vec_len}
 use Rattle.eq_base.specs.Storing.{join-empty}
 use Rattle.eq_base.specs.Tree.{node}
