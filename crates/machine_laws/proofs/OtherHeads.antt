@@ -36,10 +36,10 @@ module _ {A B : Type 0} (f : A → B) where
   cond-other false t u = refl
 
   mutual
-    put-other : (n : ℕ) (u t : Numbered A) → other (replace_numbered n u t) ≡ replace_numbered n (other u) (other t)
+    pub put-other : (n : ℕ) (u t : Numbered A) → other (replace_numbered n u t) ≡ replace_numbered n (other u) (other t)
     put-other n u (node l args) = cond-other (l.1 == n) u (node l (replace_all_numbered n u args)) ∙ ap (λ ts. cond (l.1 == n) (other u) (node (f l.0, l.1) ts)) (put-others n u args)
 
-    put-others : (n : ℕ) (u : Numbered A) (ts : Forest (A × ℕ)) → others (replace_all_numbered n u ts) ≡ replace_all_numbered n (other u) (others ts)
+    pub put-others : (n : ℕ) (u : Numbered A) (ts : Forest (A × ℕ)) → others (replace_all_numbered n u ts) ≡ replace_all_numbered n (other u) (others ts)
     put-others n u empty = refl
     put-others n u (grow t ts) = rw (put-other n u t, put-others n u ts) refl
 
