@@ -6,9 +6,8 @@ use Rattle.eq_base.specs.Operations.{application, operand}
 use Rattle.eq_base.specs.declared.head.Head.{Head}
 use Rattle.eq_base.specs.declared.rules.Op.{Op}
 use Rattle.eq_base.specs.declared.rules.Op.TheVariants.{AddInt, SubInt, MultInt, DivInt, ModInt, EquInt, LessInt, EquAtom, EquStr, ConcatStr, LengthStr}
-use Rattle.orthogonal_laws.specs.Matching.{HasShapeOf}
 use Rattle.orthogonal_laws.specs.Orthogonal.{AgreeOnRestricted}
-use Rattle.orthogonal_laws.specs.Operations.{Values}
+use Rattle.orthogonal_laws.specs.Operations.{Values, HasShapeOf}
 
 -- a symbol over one operand, or over two
 abbrev pub over_one : {H : Type 0} → Op → H → Tree (PatternCell H)

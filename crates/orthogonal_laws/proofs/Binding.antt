@@ -8,7 +8,7 @@ use Rattle.eq_base.specs.Storing.{join}
 use Rattle.eq_base.specs.Pattern.{PatternCell, fixed, variable, restricted, variables, all_variables, Substitution, apply, apply_all}
 use Rattle.eq_base.specs.Cells.{root_cell, variable_in}
 use Rattle.eq_base.specs.declared.head.Head as rust
-use Rattle.orthogonal_laws.specs.Matching.{HasShapeOf}
+use Rattle.orthogonal_laws.specs.Operations.{HasShapeOf}
 use Rattle.eq_base.proofs.Scans.{forest_from, forest_from-start, forest_from-node, forest_from-args, forest_from-end}
 
 abbrev pub Pattern : Type 0

@@ -23,7 +23,7 @@ use Rattle.symbol_table.specs.Reading.{read, read_head, read_rule, read_system, 
 use Rattle.symbol_table.proofs.Numberings.{read_all, live-term}
 use Rattle.symbol_table.proofs.Rereading.{term_kept, live_term_kept}
 use Rattle.sequentiality.specs.Regular.{AreRegular}
-use Rattle.orthogonal_laws.specs.Matching.{HasShapeOf}
+use Rattle.orthogonal_laws.specs.Operations.{HasShapeOf}
 use Rattle.orthogonal_laws.specs.Replacing.{IsOver}
 use Rattle.orthogonal_laws.specs.Orthogonal.{IsBound}
 use Rattle.orthogonal_laws.specs.Stepping.{IsReadStep}

@@ -21,8 +21,8 @@ use Rattle.eq_base.proofs.Heads.{some_same}
 use Rattle.eq_base.proofs.Instances.{Fits, FitAll, fits_from_instance}
 use Rattle.orthogonal_laws.specs.Looking.{IsFirstMet}
 use Rattle.orthogonal_laws.specs.Next.{IsFirstFit}
-use Rattle.orthogonal_laws.specs.Operations.{Values}
-use Rattle.orthogonal_laws.specs.Results.{AreValuesBy, HasResult}
+use Rattle.orthogonal_laws.specs.Operations.{Values, HasResult}
+use Rattle.orthogonal_laws.specs.Results.{AreValuesBy}
 use Rattle.symbol_table.specs.Table.{Table}
 use Rattle.symbol_table.specs.Reading.{IsLiveTerm}
 use Rattle.orthogonal_laws.specs.Orthogonal.{ClashFirst, IsWellFormedSystem, IsOrthogonal}

@@ -17,10 +17,6 @@ Stands classes (Head h arity) t = (h ≡ head_of t) × (arity ≡ arity_of t)
 Stands classes (Var x) t = Unit {0}
 Stands classes (Class x class) t = IsConstantOf (in_class_of classes) class t
 
--- the tree is an instance of the pattern, whichever heads belong to its classes
-abbrev pub HasShapeOf : Tree (PatternCell heads.Head) → Tree heads.Head → Type 0
-HasShapeOf p t = (in_class : Classes heads.Head) × IsInstanceOf in_class p t
-
 module _ {H : Type 0} (in_class : Classes H) where
   -- the trees meet the patterns everywhere
   pub data AreMet : Forest (PatternCell H) → Forest H → Type 0 where

@@ -1,13 +1,14 @@
 // Which left sides fit at a node, and where the others fail.
-ghost use Rattle.std.specs.Prelude.{◌≡◌, ◌<◌, ◌≤◌, ◌-◌, ◌↔◌, IsTrue, MatchOption};
+ghost use Rattle.std.specs.Prelude.{◌≡◌, ◌<◌, ◌≤◌, ◌-◌, ◌↔◌, IsTrue, length, MatchOption};
 ghost use Rattle.eq_base.specs.Tree.{size, nth_subtree};
+ghost use Rattle.eq_base.specs.View.{tree_at};
 ghost use Rattle.eq_base.specs.Pattern.{IsLinear, IsInstanceOf};
 ghost use Rattle.eq_base.specs.Meeting.{in_class_of};
 ghost use Rattle.sequentiality.specs.Regular.{AreRegular};
 ghost use Rattle.orthogonal_laws.specs.Matching.{Stands, FailsAt};
 ghost use Rattle.orthogonal_laws.specs.Looking.{IsLook};
 
-use eq_base::{Cell, Classes, Flat, Pattern, Rules, is_in_class};
+use eq_base::{Cell, Classes, Flat, Pattern, Rules, TermView, is_in_class};
 
 /// What the left sides come to at a node.
 #[derive(Clone, Copy)]
@@ -63,15 +64,15 @@ pub fn first_mismatch(classes: &Classes, left: &Pattern, term: &Flat, at: usize)
 }
 
 /// Whether a node is what the cell asks for: its head over as many arguments, or a constant of its class.
-pub fn stands_at(classes: &Classes, cell: Cell, term: &Flat, node: usize) -> bool
-    requires { node < size term.now }
-    ensures { IsTrue result ↔ Stands classes.now cell (nth_subtree term.now node) }
+pub fn stands_at<T: TermView>(classes: &Classes, cell: Cell, view: &T, node: usize) -> bool
+    requires { node < length (T.trees view.now) }
+    ensures { IsTrue result ↔ Stands classes.now cell (tree_at (T.trees view.now) node) }
 {
     match cell {
-        Cell::Head(head, arity) => head == term.head(node) && arity == term.arity(node),
+        Cell::Head(head, arity) => head == view.head(node) && arity == view.arity(node),
         Cell::Var(_) => true,
         Cell::Class(_, class) => {
-            term.arity(node) == 0 && is_in_class(classes, class, term.head(node))
+            view.arity(node) == 0 && is_in_class(classes, class, view.head(node))
         }
     }
 }

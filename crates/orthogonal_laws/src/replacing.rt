@@ -4,7 +4,7 @@ ghost use Rattle.eq_base.specs.Tree.{node, empty, size, nth_subtree, nth_positio
 ghost use Rattle.eq_base.specs.Pattern.{Substitution, apply, variables};
 ghost use Rattle.eq_base.specs.Cells.{TakesArguments};
 ghost use Rattle.eq_base.specs.declared.head.Head.{Head};
-ghost use Rattle.orthogonal_laws.specs.Matching.{HasShapeOf};
+ghost use Rattle.orthogonal_laws.specs.Operations.{HasShapeOf};
 ghost use Rattle.orthogonal_laws.specs.Replacing.{HasRoom, IsOver};
 
 use eq_base::{Cell, Flat, FlatMaker, Head, NoMemory, Pattern};
