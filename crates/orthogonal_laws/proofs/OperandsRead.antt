@@ -1,15 +1,17 @@
 -- Operands at the nodes of a term, and the values of its applications, as they are read.
-use Rattle.std.proofs.Common.{◌≡◌, ◌≢◌, ◌+◌, ◌<◌, ℕ, refl, sym, ◌∙◌, ap, arith}
-use Rattle.eq_base.specs.Tree.{Tree, node, empty, grow, head_of, size, nth_subtree}
+use Rattle.std.proofs.Common.{◌≡◌, ◌≢◌, ◌<◌, ℕ, List, [], ◌∷◌, length, Some, refl, sym, ◌∙◌, ap, arith}
+use Rattle.std.proofs.lemmas.List.{get_or_default}
+use Rattle.eq_base.specs.Tree.{Tree, node, empty, grow, head_of, arity_of, size, nth_subtree, subtree_at, subtrees}
+use Rattle.eq_base.specs.View.{tree_at, IsArgument}
 use Rattle.eq_base.specs.ReadHead.{ReadHead}
 use Rattle.eq_base.specs.Operations.{of_two, application_value}
 use Rattle.eq_base.specs.declared.head.Head.{Head}
-use Rattle.eq_base.specs.declared.head.Head.TheVariants.{Atom, Text}
+use Rattle.eq_base.specs.declared.head.Head.TheVariants.{Symbol, Atom, Text}
 use Rattle.eq_base.specs.declared.rules.Op.{Op}
 use Rattle.eq_base.specs.declared.rules.Op.TheVariants.{AddInt, SubInt, MultInt, DivInt, ModInt, EquInt, LessInt, EquAtom, EquStr, ConcatStr, LengthStr}
-use Rattle.eq_base.proofs.Heads.{subtree-heads}
+use Rattle.eq_base.proofs.Heads.{some_same, subtree-heads}
 use Rattle.eq_base.proofs.Positions.{subtree_at-nth_position}
-use Rattle.eq_base.proofs.Trees.{nth_subtree-nth_subtree, end_within}
+use Rattle.eq_base.proofs.Trees.{length-subtrees}
 use Rattle.symbol_table.specs.Table.{Table, HasOneNumberEach}
 use Rattle.symbol_table.specs.Reading.{read_head, read, IsLiveHead, IsLiveTerm}
 use Rattle.symbol_table.proofs.Numberings.{read_apart}
@@ -78,19 +80,23 @@ value_of_one table op s f h b e length = rw (length, e) refl
 
 -- ---- their nodes
 
-module _ (t : Tree Head) (at : ℕ) (lt : at < size t) where
-  pub second_within : (f h k : Head) → nth_subtree t at ≡ node f (grow (node h empty) (grow (node k empty) empty)) → at + 2 < size t
-  second_within f h k e = let z = end_within t at lt in let z' = ap size e in omega (arith, z, z')
+-- a node of a vector stands for the subtree there
+pub tree_at_node : (t : Tree Head) (k : ℕ) → k < size t → tree_at (subtrees t) k ≡ nth_subtree t k
+tree_at_node t k lt = get_or_default (subtrees t) k (node (Symbol 0) empty) t (omega (arith, lt, length-subtrees t))
 
-  pub first_within : (op : Op) → Applied op (nth_subtree t at) → at + 1 < size t
-  first_within op (to_one f h e length) = let z = end_within t at lt in let z' = ap size e in omega (arith, z, z')
-  first_within op (to_two f h k e other) = let z = end_within t at lt in let z' = ap size e in omega (arith, z, z')
+pub node_there : (t : Tree Head) (k : ℕ) → k < size t → k < length (subtrees t)
+node_there t k lt = omega (arith, lt, length-subtrees t)
 
-  pub first_of_one : (f h : Head) → nth_subtree t at ≡ node f (grow (node h empty) empty) → nth_subtree t (at + 1) ≡ node h empty
-  first_of_one f h e = let z' = ap size e in nth_subtree-nth_subtree t at 1 lt (omega (arith, z')) ∙ ap (λ s. nth_subtree s 1) e
+module _ (trees : List (Tree Head)) (n : ℕ) where
+  -- the node of an argument stands for the argument
+  pub argument_is : (t u : Tree Head) (i m : ℕ) → tree_at trees n ≡ t → subtree_at t (i ∷ []) ≡ Some u → IsArgument trees n i m → tree_at trees m ≡ u
+  argument_is t u i m e is a = some_same (tree_at trees m) u (sym a.stands ∙ ap (λ s. subtree_at s (i ∷ [])) e ∙ is)
 
-  pub first_of_two : (f h k : Head) → nth_subtree t at ≡ node f (grow (node h empty) (grow (node k empty) empty)) → nth_subtree t (at + 1) ≡ node h empty
-  first_of_two f h k e = let z' = ap size e in nth_subtree-nth_subtree t at 1 lt (omega (arith, z')) ∙ ap (λ s. nth_subtree s 1) e
+  -- an application has a first operand, and a second one but for the length of a string
+  pub has_first : (op : Op) → Applied op (tree_at trees n) → 0 < arity_of (tree_at trees n)
+  has_first op (to_one f h e length) = let z = ap arity_of e in omega (arith, z)
+  has_first op (to_two f h k e other) = let z = ap arity_of e in omega (arith, z)
 
-  pub second_of_two : (f h k : Head) → nth_subtree t at ≡ node f (grow (node h empty) (grow (node k empty) empty)) → nth_subtree t (at + 2) ≡ node k empty
-  second_of_two f h k e = let z' = ap size e in nth_subtree-nth_subtree t at 2 lt (omega (arith, z')) ∙ ap (λ s. nth_subtree s 2) e
+  pub has_second : (op : Op) → Applied op (tree_at trees n) → op ≢ LengthStr → 1 < arity_of (tree_at trees n)
+  has_second op (to_one f h e length) other = absurd (other length)
+  has_second op (to_two f h k e other') other = let z = ap arity_of e in omega (arith, z)
