@@ -1,5 +1,5 @@
 -- The item sets that a search has found, and where a step leads from one of them.
-use Rattle.std.specs.Prelude.{◌≡◌, ℕ, ◌<◌, ◌≤◌, List, Some, slice_get}
+use Rattle.std.specs.Prelude.{◌≡◌, ℕ, ◌+◌, ◌<◌, ◌≤◌, List, length, Some, slice_get, Contains}
 use Rattle.eq_base.specs.Meeting.{in_class_of}
 use Rattle.eq_base.specs.RuleList.{RuleList}
 use Rattle.match_laws.specs.Items.{ItemSet}
@@ -19,14 +19,15 @@ Extends old new = (number : ℕ) (items : ItemSet) → slice_get old number ≡ 
 
 -- the item set went into the list, or the list has it already, and its number is this one; together the sets
 -- hold few enough items
-pub record IsAdded (old new : List ItemSet) (items : ItemSet) (number : ℕ) : Type 0 where
+pub record IsAdded (most : ℕ) (old new : List ItemSet) (items : ItemSet) (number : ℕ) : Type 0 where
   pub interns : Interns old new items number
-  pub few : total_items new ≤ 4194304
+  pub few : total_items new ≤ most
 
--- the item set could not be added: with it, the sets hold too many items together; or there was no memory
-abbrev pub IsNotAdded : List ItemSet → List ItemSet → ItemSet → Stop → Type 0
-IsNotAdded old new items Past = ((number : ℕ) × Interns old new items number) × (4194304 < total_items new)
-IsNotAdded old new items NoMemory = Unit {0}
+-- the item set could not be added: it is new, and with it the sets hold too many items together; or there was no
+-- memory
+abbrev pub IsNotAdded : ℕ → List ItemSet → ItemSet → Stop → Type 0
+IsNotAdded most sets items Past = (¬ Contains sets items) × (most < total_items sets + length items)
+IsNotAdded most sets items NoMemory = Unit {0}
 
 module _ (rules : RuleList) where
   -- the item set is reachable
@@ -34,11 +35,11 @@ module _ (rules : RuleList) where
   IsFindable items = IsReachable (in_class_of rules.classes) (left_sides_of rules) items
 
   -- the sets are reachable, none stands twice, and they hold few enough items together
-  pub record AreFound (sets : List ItemSet) : Type 0 where
+  pub record AreFound (most : ℕ) (sets : List ItemSet) : Type 0 where
     pub each : (number : ℕ) (items : ItemSet) → slice_get sets number ≡ Some items → AreItemsOf rules items
     pub reached : (number : ℕ) (items : ItemSet) → slice_get sets number ≡ Some items → IsFindable items
     pub distinct : AreDistinct sets
-    pub few : total_items sets ≤ 4194304
+    pub few : total_items sets ≤ most
 
   -- where the set with this number is reachable, those to which the step leads from it are
   abbrev pub KeepsReachable : List ItemSet → ℕ → Step → Type 0
@@ -46,6 +47,6 @@ module _ (rules : RuleList) where
       → IsFindable items → LeadsTo rules items step next → IsFindable next
 
   -- the search stops: the reachable sets hold too many items together; or there was no memory
-  abbrev pub IsStopped : Stop → Type 0
-  IsStopped Past = ArePast (in_class_of rules.classes) (left_sides_of rules) 4194304
-  IsStopped NoMemory = Unit {0}
+  abbrev pub IsStopped : ℕ → Stop → Type 0
+  IsStopped most Past = ArePast (in_class_of rules.classes) (left_sides_of rules) most
+  IsStopped most NoMemory = Unit {0}

@@ -53,7 +53,7 @@ module _ (rules : RuleList) where
     pub as_many : length tables.states.items ≡ length tables.sets
     pub rows : AreRows tables.sets tables.states.items
     pub roots : AreRoots tables.sets tables.roots.items
-    pub found : AreFound rules tables.sets
+    pub found : AreFound rules 4194304 tables.sets
 
   -- what the search for tables answers: those of the equations; or none, where the reachable item sets hold
   -- together more than 2^22 items below the roots

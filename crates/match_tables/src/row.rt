@@ -98,22 +98,22 @@ impl State {
 }
 
 /// The row of a state, by its number.
-pub fn state_of(
+pub fn state_of<const MOST: usize>(
     alloc: Global,
-    search: &mut Search,
+    search: &mut Search<MOST>,
     rules: &Rules,
     ends: &[End],
     state: usize,
 ) -> Result<State, Stop>
     requires rules { AreWellFormed rules.now }
     requires ends { AreEnds rules.now ends.now }
-    requires found { AreFound rules.now search.old }
+    requires found { AreFound rules.now MOST search.old }
     requires state { state < length search.old }
     ensures row { IfOk result (λ row. (items : ItemSet) → slice_get search.old state ≡ Some items
         → IsRow rules.now search.new items row) }
-    ensures found { IfOk result (λ row. AreFound rules.now search.new) }
-    ensures extends { IfOk result (λ row. Extends search.old search.new) }
-    ensures err { IfErr result (IsStopped rules.now) }
+    ensures found { AreFound rules.now MOST search.new }
+    ensures extends { Extends search.old search.new }
+    ensures err { IfErr result (IsStopped rules.now MOST) }
 {
     let want = want_of(rules, search.get(state));
     let heads = heads_of(alloc, rules, search.get(state))?;
@@ -217,9 +217,9 @@ fn push_head(heads: &mut IndexSet<Head>, head: Head) -> Result<(), NoMemory>
 }
 
 // Where the heads lead.
-fn moves_of(
+fn moves_of<const MOST: usize>(
     alloc: Global,
-    search: &mut Search,
+    search: &mut Search<MOST>,
     rules: &Rules,
     ends: &[End],
     state: usize,
@@ -227,13 +227,13 @@ fn moves_of(
 ) -> Result<Vec<Move>, Stop>
     requires rules { AreWellFormed rules.now }
     requires ends { AreEnds rules.now ends.now }
-    requires found { AreFound rules.now search.old }
+    requires found { AreFound rules.now MOST search.old }
     requires state { state < length search.old }
     ensures moves { IfOk result (λ moves. (items : ItemSet) → slice_get search.old state ≡ Some items
         → AreRight rules.now search.new items heads.now moves.items) }
-    ensures found { IfOk result (λ moves. AreFound rules.now search.new) }
-    ensures extends { IfOk result (λ moves. Extends search.old search.new) }
-    ensures err { IfErr result (IsStopped rules.now) }
+    ensures found { AreFound rules.now MOST search.new }
+    ensures extends { Extends search.old search.new }
+    ensures err { IfErr result (IsStopped rules.now MOST) }
 {
     let mut moves = Vec::new(alloc);
     for head in heads {

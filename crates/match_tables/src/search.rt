@@ -1,5 +1,5 @@
 // The search for the reachable item sets.
-ghost use Rattle.std.specs.Prelude.{◌≡◌, ◌<◌, ◌≤◌, [], ◌∷◌, length, slice_get, Some, IfOk, IfErr};
+ghost use Rattle.std.specs.Prelude.{◌≡◌, ◌<◌, ◌≤◌, [], ◌∷◌, length, slice_get, Some, IfOk, IfErr, OnErr};
 ghost use Rattle.regularity.specs.WellFormed.{AreWellFormed};
 ghost use Rattle.match_laws.specs.Reachable.{total_items};
 ghost use Rattle.match_tables.specs.Completing.{AreEnds};
@@ -12,9 +12,6 @@ use crate::step::Step;
 use eq_base::{NoMemory, Rules};
 use std::alloc::{AllocFailed, Global};
 use std::marker::Model;
-
-/// The most items below the roots that all item sets may hold together.
-pub const MOST_ITEMS: usize = 4_194_304;
 
 /// Why a search stops before its end.
 #[derive(Clone, Copy, PartialEq, Eq, Debug)]
@@ -54,14 +51,14 @@ pub struct Move {
     pub completed: Option<u16>,
 }
 
-/// The item sets found so far. Contracts see the list of them.
+/// The item sets found so far, which hold together no more than `MOST` items. Contracts see the list of them.
 #[derive(Drop)]
-pub struct Search {
+pub struct Search<const MOST: usize> {
     sets: ItemSets,
     held: usize,
 }
 
-impl Model for Search {
+impl<const MOST: usize> Model for Search<MOST> {
     ghost use Rattle.std.specs.Prelude.{◌≡◌, ℕ, List};
     ghost use Rattle.match_laws.specs.Reachable.{total_items};
 
@@ -72,13 +69,13 @@ impl Model for Search {
     ghost invariant = { λ s. s.held ≡ total_items s.sets };
 }
 
-impl Search {
+impl<const MOST: usize> Search<MOST> {
     ghost use Rattle.match_tables.specs.Searching.{IsAdded, IsNotAdded, Extends, AreFound, KeepsReachable, IsStopped};
     ghost use Rattle.match_tables.specs.Rows.{IsRight};
     ghost use Rattle.match_tables.specs.Sets.{AreDistinct};
 
     /// The item set of the roots alone.
-    pub fn new(alloc: Global) -> Result<Search, NoMemory>
+    pub fn new(alloc: Global) -> Result<Search<MOST>, NoMemory>
         ensures { IfOk result (λ search. search ≡ [] ∷ []) }
     {
         let mut sets = ItemSets::new(alloc);
@@ -105,24 +102,23 @@ impl Search {
     ///
     /// # Errors
     ///
-    /// Too many items, or out of memory.
+    /// Too many items with it, or out of memory.
     pub fn add(&mut self, items: Vec<Item>) -> Result<usize, Stop>
-        requires { total_items self.old ≤ 4194304 }
-        ensures ok { IfOk result (λ number. IsAdded self.old self.new items.items number) }
-        ensures err { IfErr result (λ stop. IsNotAdded self.old self.new items.items stop) }
+        requires { total_items self.old ≤ MOST }
+        ensures ok { IfOk result (λ number. IsAdded MOST self.old self.new items.items number) }
+        ensures same { OnErr result (self.new ≡ self.old) }
+        ensures err { IfErr result (IsNotAdded MOST self.old items.items) }
         ensures distinct { AreDistinct self.new }
     {
-        let before = self.sets.len();
-        let more = items.len();
-        let Ok(number) = self.sets.insert(items) else {
-            return Err(Stop::NoMemory);
-        };
-        if before < self.sets.len() {
-            self.held += more;
+        if let Some(number) = self.sets.number_of(&items) {
+            return Ok(number);
         }
-        if MOST_ITEMS < self.held {
+        let more = items.len();
+        if MOST - self.held < more {
             return Err(Stop::Past);
         }
+        let number = self.sets.insert(items)?;
+        self.held += more;
         Ok(number)
     }
 
@@ -137,14 +133,14 @@ impl Search {
     ) -> Result<Move, Stop>
         requires rules { AreWellFormed rules.now }
         requires ends { AreEnds rules.now ends.now }
-        requires found { AreFound rules.now self.old }
+        requires found { AreFound rules.now MOST self.old }
         requires state { state < length self.old }
         requires reached { KeepsReachable rules.now self.old state step }
         ensures right { IfOk result (λ to. (items : ItemSet) → slice_get self.old state ≡ Some items
             → IsRight rules.now self.new items step to) }
-        ensures found { IfOk result (λ to. AreFound rules.now self.new) }
-        ensures extends { IfOk result (λ to. Extends self.old self.new) }
-        ensures err { IfErr result (IsStopped rules.now) }
+        ensures found { AreFound rules.now MOST self.new }
+        ensures extends { Extends self.old self.new }
+        ensures err { IfErr result (IsStopped rules.now MOST) }
     {
         let items = self.sets.get(state);
         let completed = first_completed(rules, ends, items, step);
