@@ -7,3 +7,4 @@ pub mod Searching
 pub mod Answering
 pub mod Rows
 pub mod Tabled
+pub mod Made

@@ -1,5 +1,5 @@
 // Which left sides a step completes.
-ghost use Rattle.std.specs.Prelude.{◌≡◌, ◌<◌, ◌≤◌, ◌↔◌, [], length, IsTrue, IfOk};
+ghost use Rattle.std.specs.Prelude.{◌≡◌, ◌<◌, ◌≤◌, ◌↔◌, [], length, Some, slice_get, IsTrue, IfOk};
 ghost use Rattle.eq_base.specs.Tree.{size, nth_position};
 ghost use Rattle.eq_base.specs.Limits.{most_left_cells};
 ghost use Rattle.regularity.specs.WellFormed.{HasSymbolRoot, AreWellFormed};
@@ -75,6 +75,16 @@ fn depth_of(left: &Pattern, cell: usize) -> usize
         }
     }
     depth
+}
+
+/// How far below its root a left side has its last tested cell.
+pub fn height_of(ends: &[End], equation: u16) -> usize
+    ensures { (end : End) → slice_get ends.now equation ≡ Some end → result ≡ end.height }
+{
+    match ends.get(equation as usize) {
+        Some(end) => end.height as usize,
+        None => 0,
+    }
 }
 
 /// The first equation whose left side a step completes, if there is one.

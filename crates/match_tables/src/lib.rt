@@ -4,6 +4,9 @@
 pub mod advance;
 mod completed;
 mod further;
+mod known;
+mod on_demand;
+mod roots;
 mod row;
 mod search;
 mod sets;
@@ -12,5 +15,7 @@ mod step;
 mod tables;
 
 pub use advance::{Advance, Want};
+pub use known::Known;
+pub use on_demand::OnDemand;
 pub use states::States;
 pub use tables::Tables;

@@ -1,5 +1,5 @@
 // Where the heads lead from one state.
-ghost use Rattle.std.specs.Prelude.{◌≡◌, ◌+◌, ◌<◌, ◌≤◌, length, slice_get, Some, Contains, IfOk, IfErr, OnOk};
+ghost use Rattle.std.specs.Prelude.{◌≡◌, ◌+◌, ◌<◌, ◌≤◌, [], length, slice_get, Some, Contains, IfOk, IfErr, OnOk};
 ghost use Rattle.eq_base.specs.Cells.{kind_of};
 ghost use Rattle.eq_base.specs.ClassLists.{members_of};
 ghost use Rattle.eq_base.specs.Meeting.{class_number};
@@ -13,9 +13,10 @@ ghost use Rattle.match_tables.specs.Searching.{Extends, AreFound, IsStopped};
 ghost use Rattle.match_tables.specs.Answering.{IsWanted};
 ghost use Rattle.match_tables.specs.Rows.{HasNamed, HaveNamed, Keeps, HasAll, AreRight, IsRow};
 
-use crate::advance::Want;
+use crate::advance::{Advance, Want};
 use crate::completed::End;
 use crate::further::Item;
+use crate::roots::on_root;
 use crate::search::{Move, Search, Stop};
 use crate::step::Step;
 use eq_base::{Cell, Classes, FIRST_CLASS, Head, NoMemory, Rules, SymbolClass};
@@ -41,7 +42,8 @@ pub struct State {
 impl State {
     ghost use Rattle.std.specs.Prelude.{List};
     ghost use Rattle.match_tables.specs.Rows.{IsPlaceIn};
-    ghost use Rattle.match_tables.specs.Tabled.{IsOnHead};
+    ghost use Rattle.match_tables.specs.Answering.{StandsFor, IsAdvance};
+    ghost use Rattle.match_tables.specs.Tabled.{AreRoots, IsOnHead};
 
     // Where the head stands among those with a move of their own.
     fn place_of(&self, head: Head) -> Option<usize>
@@ -95,6 +97,15 @@ impl State {
             Head::Text(_) => self.strings,
         }
     }
+
+    /// What a read of a head answers, given where symbols lead from the roots alone.
+    pub fn read(&self, roots: &[Move], ends: &[End], head: Head) -> Advance
+        ensures { (rules : RuleList) → AreWellFormed rules → AreEnds rules ends.now
+            → (sets : List ItemSet) → StandsFor sets 0 [] → AreRoots rules sets roots.now
+            → (items : ItemSet) → IsRow rules sets items self.now → IsAdvance rules sets items head result }
+    {
+        self.on_head(head, on_root(roots, head)).advance(ends)
+    }
 }
 
 /// The row of a state, by its number.
@@ -140,8 +151,8 @@ fn other(class: SymbolClass) -> Step
     Step::Other(class.number())
 }
 
-// What the items want.
-fn want_of(rules: &Rules, items: &[Item]) -> Want
+/// What the items want.
+pub fn want_of(rules: &Rules, items: &[Item]) -> Want
     requires rules { AreWellFormed rules.now }
     requires items { AreItemsOf rules.now items.now }
     ensures { IsWanted rules.now items.now result }

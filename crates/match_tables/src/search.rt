@@ -5,7 +5,8 @@ ghost use Rattle.match_laws.specs.Reachable.{total_items};
 ghost use Rattle.match_tables.specs.Completing.{AreEnds};
 ghost use Rattle.match_laws.specs.Items.{ItemSet};
 
-use crate::completed::{End, first_completed};
+use crate::advance::Advance;
+use crate::completed::{End, first_completed, height_of};
 use crate::further::{Item, further};
 use crate::sets::ItemSets;
 use crate::step::Step;
@@ -49,6 +50,30 @@ pub struct Move {
     pub next: usize,
     /// The first equation whose left side is completed, if there is one.
     pub completed: Option<u16>,
+}
+
+impl Move {
+    ghost use Rattle.std.specs.Prelude.{List};
+    ghost use Rattle.eq_base.specs.RuleList.{RuleList};
+    ghost use Rattle.eq_base.specs.declared.head.Head.{Head};
+    ghost use Rattle.match_tables.specs.Answering.{IsAdvance};
+    ghost use Rattle.match_tables.specs.Rows.{IsRight};
+    ghost use Rattle.match_tables.specs.declared.step.Step.TheVariants.{Read};
+
+    /// What a read answers that leads there.
+    pub fn advance(self, ends: &[End]) -> Advance
+        ensures { (rules : RuleList) → AreEnds rules ends.now → (sets : List ItemSet) (items : ItemSet)
+            (head : Head) → IsRight rules sets items (Read head) self → IsAdvance rules sets items head result }
+    {
+        match self.completed {
+            None => Advance::Go(self.next),
+            Some(equation) => Advance::Redex {
+                equation: equation as usize,
+                height: height_of(ends, equation),
+                next: self.next,
+            },
+        }
+    }
 }
 
 /// The item sets found so far, which hold together no more than `MOST` items. Contracts see the list of them.

@@ -1,21 +1,23 @@
 // The tables and their states.
-ghost use Rattle.std.specs.Prelude.{◌≡◌, ℕ, ◌<◌, ◌≤◌, List, [], length, IfOk, IfErr, Some, slice_get};
-ghost use Rattle.eq_base.specs.Cells.{kind_of};
+ghost use Rattle.std.specs.Prelude.{◌≡◌, [], length, IfOk, IfErr};
 ghost use Rattle.eq_base.specs.RuleList.{RuleList};
 ghost use Rattle.regularity.specs.WellFormed.{AreWellFormed};
 ghost use Rattle.match_tables.specs.Completing.{AreEnds};
 ghost use Rattle.match_tables.specs.Searching.{Extends, AreFound, IsStopped};
-ghost use Rattle.match_tables.specs.Tabled.{AreRows, AreRoots, AreRootsBelow, IsBelow, AreTablesOf};
+ghost use Rattle.match_tables.specs.Tabled.{AreRows, AreTablesOf};
 
 use crate::advance::{Advance, Want};
 use crate::completed::{End, ends_of};
+use crate::roots::roots_of;
 use crate::row::{State, state_of};
 use crate::search::{Move, Search, Stop};
 use crate::sets::ItemSets;
-use crate::step::Step;
-use eq_base::{Cell, Head, NoMemory, Rules};
+use eq_base::{Head, NoMemory, Rules};
 use sequentiality::Regular;
 use std::alloc::Global;
+
+/// The most items below the roots that the item sets of tables may hold together.
+pub const MOST_ITEMS: usize = 4_194_304;
 
 /// Where the heads of terms lead from one item set to the next.
 ///
@@ -33,11 +35,7 @@ pub struct Tables {
 impl Tables {
     ghost use Rattle.match_laws.specs.Items.{ItemSet};
     ghost use Rattle.match_tables.specs.Answering.{StandsFor, IsWanted, IsAdvance, SkipLeads};
-    ghost use Rattle.match_tables.specs.Rows.{MeetsNone, IsRight};
     ghost use Rattle.match_tables.specs.Tabled.{IsState, IsBuilt};
-    ghost use Rattle.match_tables.specs.declared.completed.End.{End};
-    ghost use Rattle.eq_base.specs.declared.head.Head.TheVariants.{Symbol};
-    ghost use Rattle.match_tables.specs.declared.step.Step.TheVariants.{Read};
 
     /// The tables of equations, or none where the reachable item sets hold together more than 2^22 items below
     /// the roots. It stops soon after that many are found.
@@ -64,26 +62,7 @@ impl Tables {
         ensures { (rules : RuleList) → AreTablesOf rules self.now → (items : ItemSet)
             → StandsFor self.now.sets state items → IsAdvance rules self.now.sets items head result }
     {
-        let to = self.states[state].on_head(head, self.on_root(head));
-        let next = to.next;
-        match to.completed {
-            None => Advance::Go(next),
-            Some(equation) => Advance::Redex {
-                equation: equation as usize,
-                height: self.height(equation),
-                next,
-            },
-        }
-    }
-
-    // How far below its root a left side has its last tested cell.
-    fn height(&self, equation: u16) -> usize
-        ensures { (end : End) → slice_get self.now.ends.items equation ≡ Some end → result ≡ end.height }
-    {
-        match self.ends.get(equation as usize) {
-            Some(end) => end.height as usize,
-            None => 0,
-        }
+        self.states[state].read(&self.roots, &self.ends, head)
     }
 
     /// Where a skip leads.
@@ -103,31 +82,13 @@ impl Tables {
     {
         self.states[state].want
     }
-
-    // Where a head leads that no item below the roots meets.
-    fn on_root(&self, head: Head) -> Move
-        ensures { (rules : RuleList) → AreTablesOf rules self.now → (items : ItemSet)
-            → MeetsNone rules items head → (symbol : ℕ) → head ≡ Symbol symbol
-            → IsRight rules self.now.sets items (Read head) result }
-    {
-        let nowhere = Move {
-            next: 0,
-            completed: None,
-        };
-        match head {
-            Head::Symbol(symbol) if (symbol as usize) < self.roots.len() => {
-                self.roots[symbol as usize]
-            }
-            _ => nowhere,
-        }
-    }
 }
 
 // The tables of equations.
 fn find(alloc: Global, rules: &Rules) -> Result<Tables, Stop>
     requires { AreWellFormed rules.now }
     ensures ok { IfOk result (λ tables. AreTablesOf rules.now tables) }
-    ensures err { IfErr result (IsStopped rules.now) }
+    ensures err { IfErr result (IsStopped rules.now 4194304) }
 {
     let ends = ends_of(alloc, rules)?;
     let mut search = Search::new(alloc)?;
@@ -144,18 +105,18 @@ fn find(alloc: Global, rules: &Rules) -> Result<Tables, Stop>
 // The states, in the order in which their item sets are found.
 fn states_of(
     alloc: Global,
-    search: &mut Search,
+    search: &mut Search<MOST_ITEMS>,
     rules: &Rules,
     ends: &[End],
 ) -> Result<Vec<State>, Stop>
     requires rules { AreWellFormed rules.now }
     requires ends { AreEnds rules.now ends.now }
-    requires found { AreFound rules.now search.old }
+    requires found { AreFound rules.now 4194304 search.old }
     ensures rows { IfOk result (λ states. AreRows rules.now search.new states.items) }
     ensures as_many { IfOk result (λ states. length states.items ≡ length search.new) }
-    ensures found { IfOk result (λ states. AreFound rules.now search.new) }
+    ensures found { IfOk result (λ states. AreFound rules.now 4194304 search.new) }
     ensures extends { IfOk result (λ states. Extends search.old search.new) }
-    ensures err { IfErr result (IsStopped rules.now) }
+    ensures err { IfErr result (IsStopped rules.now 4194304) }
 {
     let mut states = Vec::new(alloc);
     while states.len() < search.len() {
@@ -163,55 +124,4 @@ fn states_of(
         states.push(state)?;
     }
     Ok(states)
-}
-
-// Where the symbols lead from the roots alone.
-fn roots_of(
-    alloc: Global,
-    search: &mut Search,
-    rules: &Rules,
-    ends: &[End],
-) -> Result<Vec<Move>, Stop>
-    requires rules { AreWellFormed rules.now }
-    requires ends { AreEnds rules.now ends.now }
-    requires found { AreFound rules.now search.old }
-    requires start { slice_get search.old 0 ≡ Some [] }
-    ensures roots { IfOk result (λ roots. AreRoots rules.now search.new roots.items) }
-    ensures found { IfOk result (λ roots. AreFound rules.now search.new) }
-    ensures extends { IfOk result (λ roots. Extends search.old search.new) }
-    ensures err { IfErr result (IsStopped rules.now) }
-{
-    let mut roots = Vec::new(alloc);
-    for symbol in 0..end_of_roots(rules) {
-        let step = Step::Read(Head::Symbol(symbol as u32));
-        let to = search.go(alloc, rules, ends, 0, step)?;
-        roots.push(to)?;
-    }
-    Ok(roots)
-}
-
-// One more than the greatest symbol at the root of a left side.
-fn end_of_roots(rules: &Rules) -> usize
-    ensures above { AreRootsBelow rules.now result }
-    ensures small { result ≤ 4294967296 }
-{
-    let mut end = 0;
-    for number in 0..rules.len() {
-        let own = end_of_root(rules.equation(number).left.cell(0));
-        if end < own {
-            end = own;
-        }
-    }
-    end
-}
-
-// One more than the symbol in a cell, or 0 where there is none.
-fn end_of_root(cell: Cell) -> usize
-    ensures above { IsBelow (kind_of cell) result }
-    ensures small { result ≤ 4294967296 }
-{
-    match cell {
-        Cell::Head(Head::Symbol(symbol), _) => symbol as usize + 1,
-        _ => 0,
-    }
 }

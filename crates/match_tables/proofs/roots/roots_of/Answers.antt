@@ -2,7 +2,7 @@ use Rattle.std.proofs.Common.{[], length-append, ◌∷◌, arith}
 use Rattle.match_tables.proofs.Extending.{extends-both}
 use Rattle.match_tables.proofs.Fresh.{keeps-read}
 use Rattle.match_tables.proofs.Rooted.{roots-push, no-root}
-use Rattle.match_tables.proofs.tables.roots_of.Goals as goal
+use Rattle.match_tables.proofs.roots.roots_of.Goals as goal
 
 pub go-requires-clause-reached : goal.go-requires-clause-reached
 go-requires-clause-reached c = keeps-read c.args.rules.now c.loop-symbol.search 0 _

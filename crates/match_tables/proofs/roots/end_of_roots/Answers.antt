@@ -1,8 +1,8 @@
 use Rattle.std.proofs.Common.{arith}
 use Rattle.match_tables.proofs.Moved.{root-place, place-there}
 use Rattle.match_tables.proofs.Rooted.{below-more, below-all}
-use Rattle.match_tables.proofs.tables.end_of_roots.Goals as goal
-use Rattle.match_tables.proofs.tables.end_of_roots.Goals.{then-end-own, else-end-own}
+use Rattle.match_tables.proofs.roots.end_of_roots.Goals as goal
+use Rattle.match_tables.proofs.roots.end_of_roots.Goals.{then-end-own, else-end-own}
 
 pub cell-requires : goal.cell-requires
 cell-requires c = place-there c.args.rules.now _ c.equation.result.now c.equation.ensures 0 (root-place c.args.rules.now _ c.equation.result.now c.equation.ensures)

@@ -6,7 +6,7 @@ use Rattle.match_tables.specs.Rows.{IsRight}
 use Rattle.match_laws.specs.Demand.{left_sides_of}
 use Rattle.match_tables.specs.declared.step.Step.TheVariants.{Read}
 use Rattle.match_tables.proofs.Rights.{root-right, nowhere-right}
-use Rattle.match_tables.proofs.tables.Tables.on_root.Goals as goal
+use Rattle.match_tables.proofs.roots.on_root.Goals as goal
 
 pub returns-in-Symbol : goal.returns-in-Symbol
 returns-in-Symbol c = λ rules t items none symbol e.
