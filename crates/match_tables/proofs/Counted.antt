@@ -18,5 +18,5 @@ few-sets [] d = omega arith
 few-sets ([] ∷ sets) d = omega (arith, no-empty sets d.0)
 few-sets ((x ∷ items) ∷ sets) d = omega (arith, few-sets sets d.1)
 
-pub found-few : (rules : RuleList) (sets : List ItemSet) → AreFound rules sets → length sets ≤ 4194305
+pub found-few : (rules : RuleList) (sets : List ItemSet) → AreFound rules 4194304 sets → length sets ≤ 4194305
 found-few rules sets f = omega (arith, few-sets sets (distinct-list sets f.distinct), f.few)

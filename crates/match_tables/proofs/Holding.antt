@@ -1,5 +1,6 @@
 -- How many items the item sets of a search hold.
 use Rattle.std.proofs.Common.{Result, Err, IfErr, ◌≡◌, ◌≢◌, ℕ, suc, Some, refl, ◌+◌, ◌<◌, ◌≤◌, List, [], ◌∷◌, ◌++◌, length, slice_get, sym, ◌∙◌, ap, subst, arith, length-append, ⊎_elim}
+use Rattle.std.specs.Prelude.{Contains}
 use Rattle.eq_base.specs.RuleList.{RuleList}
 use Rattle.match_laws.specs.Items.{ItemSet}
 use Rattle.match_laws.specs.Reachable.{total_items}
@@ -11,7 +12,7 @@ use Rattle.match_tables.specs.Searching.{Extends, IsNotAdded, IsFindable, AreFou
 use Rattle.match_tables.specs.declared.search.Stop.{Stop}
 use Rattle.match_tables.specs.declared.search.Stop.TheVariants.{Past, NoMemory}
 use Rattle.match_tables.specs.declared.step.Step.{Step}
-use Rattle.match_tables.proofs.Places.{kept, old_or_last, place_from_contains}
+use Rattle.match_tables.proofs.Places.{kept, old_or_last, place_from_contains, contains_from_place}
 use Rattle.match_tables.proofs.Moved.{each_contained}
 use Rattle.std.specs.List.{AllByRecursion}
 
@@ -19,20 +20,13 @@ total-push : (sets : List ItemSet) (items : ItemSet) → total_items (sets ++ it
 total-push [] items = omega arith
 total-push (other ∷ sets) items = omega (arith, total-push sets items)
 
-module _ (old new : List ItemSet) (items : ItemSet) (number held : ℕ) (is : held ≡ total_items old) (interns : Interns old new items number) where
-  pub held-more : (more : ℕ) → more ≡ length items → length old < length new → held + more ≡ total_items new
-  held-more more long longer =
-      ⊎_elim
-      (λ same. absurd (let z = ap length same in omega arith))
-      (λ grown. let z = ap total_items grown.1 in omega (arith, is, long, z, total-push old items))
-      interns.kept
-
-  pub held-same : length new ≤ length old → held ≡ total_items new
-  held-same less =
-      ⊎_elim
-      (λ same. is ∙ sym (ap total_items same))
-      (λ grown. absurd (let z = ap length grown.1 in omega (arith, z, length-append old (items ∷ []))))
-      interns.kept
+-- a new item set adds its items
+pub total-new : (old new : List ItemSet) (items : ItemSet) (number : ℕ) → ¬ Contains old items → Interns old new items number → total_items new ≡ total_items old + length items
+total-new old new items number fresh interns =
+    ⊎_elim
+    (λ same. absurd (fresh (contains_from_place old number items (ap (λ sets. slice_get sets number) (sym same) ∙ interns.here))))
+    (λ grown. ap total_items grown.1 ∙ total-push old items)
+    interns.kept
 
 module _ (old new : List ItemSet) (items : ItemSet) (number : ℕ) (interns : Interns old new items number) where
   -- what holds of each old set and of this one holds of each new one
@@ -77,9 +71,9 @@ module _ (rules : RuleList) where
     there = λ e c x. ((l.exactly e c).0 x).there;
   }
 
-  module _ (old new : List ItemSet) (items : ItemSet) (f : AreFound rules old) (findable : IsFindable rules items) (distinct : AreDistinct new) where
-    pub found-added : (number : ℕ) → Interns old new items number → AreItemsOf rules items → total_items new ≤ 4194304 → AreFound rules new
-    found-added number interns are few = record {
+  module _ (most : ℕ) (old : List ItemSet) (f : AreFound rules most old) (items : ItemSet) (findable : IsFindable rules items) where
+    pub found-added : (new : List ItemSet) → AreDistinct new → (number : ℕ) → Interns old new items number → AreItemsOf rules items → total_items new ≤ most → AreFound rules most new
+    found-added new distinct number interns are few = record {
       each = each-interned old new items number interns (AreItemsOf rules) f.each are;
       reached = each-interned old new items number interns (IsFindable rules) f.reached findable;
       distinct = distinct;
@@ -87,14 +81,14 @@ module _ (rules : RuleList) where
     }
 
     -- a set that could not be added stops the search
-    not-added : (stop : Stop) → IsNotAdded old new items stop → IsStopped rules stop
-    not-added Past ((number, interns), more) = record {
-      sets = new;
-      distinct = distinct-list new distinct;
-      reachable = each-listed (IsFindable rules) new (each-interned old new items number interns (IsFindable rules) f.reached findable);
-      more = more;
+    not-added : (stop : Stop) → IsNotAdded most old items stop → IsStopped rules most stop
+    not-added Past (fresh, more) = record {
+      sets = items ∷ old;
+      distinct = (each_contained (λ other. items ≢ other) old (λ other c same. fresh (subst (Contains old) (sym same) c)), distinct-list old f.distinct);
+      reachable = (findable, each-listed (IsFindable rules) old f.reached);
+      more = omega (arith, more);
     }
     not-added NoMemory _ = tt
 
-    pub stopped : {X : Type 0} (r : Result X Stop) (stop : Stop) → r ≡ Err stop → IsNotAdded old new items stop → IfErr r (IsStopped rules)
-    stopped r stop is x = subst (λ r. IfErr r (IsStopped rules)) (sym is) (not-added stop x)
+    pub stopped : {X : Type 0} (r : Result X Stop) (stop : Stop) → r ≡ Err stop → IsNotAdded most old items stop → IfErr r (IsStopped rules most)
+    stopped r stop is x = subst (λ r. IfErr r (IsStopped rules most)) (sym is) (not-added stop x)

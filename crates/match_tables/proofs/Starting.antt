@@ -25,8 +25,8 @@ no-items rules = record {
   there = λ e c x. absurd (omega (arith, x.1));
 }
 
-found-one : (rules : RuleList) → AreFound rules ([] ∷ [])
-found-one rules = record {
+found-one : (rules : RuleList) (most : ℕ) → AreFound rules most ([] ∷ [])
+found-one rules most = record {
   each = λ n items at. subst (AreItemsOf rules) (sym (only-one n items at).1) (no-items rules);
   reached = λ n items at. subst (IsFindable rules) (sym (only-one n items at).1) start;
   distinct = λ items one other a b. let x = (only-one one items a).0 in let y = (only-one other items b).0 in omega (arith, x, y);
@@ -34,8 +34,8 @@ found-one rules = record {
 }
 
 module _ (rules : RuleList) (sets : List ItemSet) (is : sets ≡ [] ∷ []) where
-  pub found-start : AreFound rules sets
-  found-start = subst (AreFound rules) (sym is) (found-one rules)
+  pub found-start : (most : ℕ) → AreFound rules most sets
+  found-start most = subst (AreFound rules most) (sym is) (found-one rules most)
 
   pub stands-start : slice_get sets 0 ≡ Some []
   stands-start = ap (λ l. slice_get l 0) is
@@ -43,7 +43,7 @@ module _ (rules : RuleList) (sets : List ItemSet) (is : sets ≡ [] ∷ []) wher
 -- ---- the tables that are found from there
 
 module _ (rules : RuleList) (tables : Tables) (begun rooted last : List ItemSet) (same : tables.sets ≡ last) where
-  pub tables-are : AreWellFormed rules → AreEnds rules tables.ends.items → StandsFor begun 0 [] → Extends begun rooted → AreRoots rules rooted tables.roots.items → Extends rooted last → length tables.states.items ≡ length last → AreRows rules last tables.states.items → AreFound rules last → AreTablesOf rules tables
+  pub tables-are : AreWellFormed rules → AreEnds rules tables.ends.items → StandsFor begun 0 [] → Extends begun rooted → AreRoots rules rooted tables.roots.items → Extends rooted last → length tables.states.items ≡ length last → AreRows rules last tables.states.items → AreFound rules 4194304 last → AreTablesOf rules tables
   tables-are well_formed ends at more roots further as_many rows found = record {
     well_formed = well_formed;
     ends = ends;
@@ -51,5 +51,5 @@ module _ (rules : RuleList) (tables : Tables) (begun rooted last : List ItemSet)
     as_many = as_many ∙ sym (ap length same);
     rows = subst (λ sets. AreRows rules sets tables.states.items) (sym same) rows;
     roots = subst (λ sets. AreRoots rules sets tables.roots.items) (sym same) (extends-roots rules rooted last further tables.roots.items roots);
-    found = subst (AreFound rules) (sym same) found;
+    found = subst (AreFound rules 4194304) (sym same) found;
   }

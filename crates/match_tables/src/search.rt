@@ -176,7 +176,7 @@ impl<const MOST: usize> Search<MOST> {
 
     /// The item sets.
     pub fn finish(self) -> ItemSets
-        ensures { result ≡ self }
+        ensures { result ≡ self.entry }
     {
         let Search { sets, held: _ } = self;
         sets

@@ -5,20 +5,20 @@ use Rattle.match_tables.proofs.Rooted.{roots-push, no-root}
 use Rattle.match_tables.proofs.roots.roots_of.Goals as goal
 
 pub go-requires-clause-reached : goal.go-requires-clause-reached
-go-requires-clause-reached c = keeps-read c.args.rules.now c.loop-symbol.search 0 _
+go-requires-clause-reached g c = keeps-read c.args.rules.now c.loop-symbol.search 0 _
 
 pub loop-symbol-preserved : goal.loop-symbol-preserved
-loop-symbol-preserved c =
-    let e = c.in_ok-to.ensures.extends in
+loop-symbol-preserved g c =
+    let e = c.go.ensures.extends in
     let start = c.loop-symbol.invariant.1 0 [] c.requires.start in (
-      c.in_ok-to.ensures.found,
+      c.go.ensures.found,
       extends-both c.args.search.now c.loop-symbol.search c.go.new.self c.loop-symbol.invariant.1 e,
       rw c.in_ok-push.ensures.items (let l = length-append c.loop-symbol.roots.items (c.in_ok-to.to ∷ []) in omega (arith, l, c.loop-symbol.invariant.2)),
       rw c.in_ok-push.ensures.items (roots-push c.args.rules.now c.loop-symbol.search c.go.new.self e c.loop-symbol.roots.items c.loop-symbol.symbol c.in_ok-to.to c.loop-symbol.invariant.2 c.loop-symbol.invariant.3 (c.in_ok-to.ensures.right [] start)),
     )
 
 pub returns-clause-roots : goal.returns-clause-roots
-returns-clause-roots c = record {
+returns-clause-roots g c = record {
   each = c.loop-symbol.invariant.3;
   past = λ symbol past. no-root c.args.rules.now c.requires.rules c.end_of_roots-symbol-end.result symbol c.end_of_roots-symbol-end.ensures.above (omega (arith, past, c.loop-symbol.invariant.2, c.loop-symbol-test.false));
 }

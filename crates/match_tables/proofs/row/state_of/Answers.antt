@@ -7,79 +7,79 @@ use Rattle.match_tables.proofs.Fresh.{keeps-skip, keeps-other, fresh-numeral, fr
 use Rattle.match_tables.proofs.row.state_of.Goals as goal
 
 pub want_of-want-requires-clause-items : goal.want_of-want-requires-clause-items
-want_of-want-requires-clause-items c = c.requires.found.each c.args.state c.get.result.now c.get.ensures
+want_of-want-requires-clause-items g c = c.requires.found.each c.args.state c.get.result.now c.get.ensures
 
 pub heads_of-requires : goal.heads_of-requires
-heads_of-requires c = record { items = c.requires.found.each c.args.state c.get-2.result.now c.get-2.ensures }
+heads_of-requires g c = record { items = c.requires.found.each c.args.state c.get-2.result.now c.get-2.ensures }
 
 pub go-requires-clause-reached : goal.go-requires-clause-reached
-go-requires-clause-reached c = keeps-skip c.args.rules.now c.args.search.now c.args.state
+go-requires-clause-reached g c = keeps-skip c.args.rules.now c.args.search.now c.args.state
 
 pub moves_of-requires-clause-state : goal.moves_of-requires-clause-state
-moves_of-requires-clause-state c = still-below c.args.search.now c.go.new.self c.args.state c.get.result.now c.in_ok-skip.ensures.extends c.get.ensures
+moves_of-requires-clause-state g c = still-below c.args.search.now c.go.new.self c.args.state c.get.result.now c.go.ensures.extends c.get.ensures
 
 pub go-requires-2-clause-state : goal.go-requires-2-clause-state
-go-requires-2-clause-state c =
-    let at1 = c.in_ok-skip.ensures.extends c.args.state c.get.result.now c.get.ensures in
-    still-below c.go.new.self c.moves_of.new.search c.args.state c.get.result.now c.in_ok-moves.ensures.extends at1
+go-requires-2-clause-state g c =
+    let at1 = c.go.ensures.extends c.args.state c.get.result.now c.get.ensures in
+    still-below c.go.new.self c.moves_of.new.search c.args.state c.get.result.now c.moves_of.ensures.extends at1
 
 pub go-requires-2-clause-reached : goal.go-requires-2-clause-reached
-go-requires-2-clause-reached c =
-    let at1 = c.in_ok-skip.ensures.extends c.args.state c.get-2.result.now c.get-2.ensures in
-    let at2 = c.in_ok-moves.ensures.extends c.args.state c.get-2.result.now at1 in
+go-requires-2-clause-reached g c =
+    let at1 = c.go.ensures.extends c.args.state c.get-2.result.now c.get-2.ensures in
+    let at2 = c.moves_of.ensures.extends c.args.state c.get-2.result.now at1 in
     subst (KeepsReachable c.args.rules.now c.moves_of.new.search c.args.state) (sym c.other.ensures)
     (keeps-other c.args.rules.now c.moves_of.new.search c.args.state c.requires.rules c.in_ok-heads.heads.keys (named-at c.args.rules.now c.moves_of.new.search c.args.state c.get-2.result.now c.in_ok-heads.heads.keys at2 c.in_ok-heads.ensures) 0 (fresh-numeral c.in_ok-heads.heads.keys))
 
 pub go-requires-3-clause-state : goal.go-requires-3-clause-state
-go-requires-3-clause-state c =
-    let at1 = c.in_ok-skip.ensures.extends c.args.state c.get.result.now c.get.ensures in
-    let at2 = c.in_ok-moves.ensures.extends c.args.state c.get.result.now at1 in
-    still-below c.moves_of.new.search c.go-2.new.self c.args.state c.get.result.now c.in_ok-numerals.ensures.extends at2
+go-requires-3-clause-state g c =
+    let at1 = c.go.ensures.extends c.args.state c.get.result.now c.get.ensures in
+    let at2 = c.moves_of.ensures.extends c.args.state c.get.result.now at1 in
+    still-below c.moves_of.new.search c.go-2.new.self c.args.state c.get.result.now c.go-2.ensures.extends at2
 
 pub go-requires-3-clause-reached : goal.go-requires-3-clause-reached
-go-requires-3-clause-reached c =
-    let at1 = c.in_ok-skip.ensures.extends c.args.state c.get-2.result.now c.get-2.ensures in
-    let at2 = c.in_ok-moves.ensures.extends c.args.state c.get-2.result.now at1 in
-    let at3 = c.in_ok-numerals.ensures.extends c.args.state c.get-2.result.now at2 in
+go-requires-3-clause-reached g c =
+    let at1 = c.go.ensures.extends c.args.state c.get-2.result.now c.get-2.ensures in
+    let at2 = c.moves_of.ensures.extends c.args.state c.get-2.result.now at1 in
+    let at3 = c.go-2.ensures.extends c.args.state c.get-2.result.now at2 in
     subst (KeepsReachable c.args.rules.now c.go-2.new.self c.args.state) (sym c.other-2.ensures)
     (keeps-other c.args.rules.now c.go-2.new.self c.args.state c.requires.rules c.in_ok-heads.heads.keys (named-at c.args.rules.now c.go-2.new.self c.args.state c.get-2.result.now c.in_ok-heads.heads.keys at3 c.in_ok-heads.ensures) 1 (fresh-atom c.in_ok-heads.heads.keys))
 
 pub go-requires-4-clause-state : goal.go-requires-4-clause-state
-go-requires-4-clause-state c =
-    let at1 = c.in_ok-skip.ensures.extends c.args.state c.get.result.now c.get.ensures in
-    let at2 = c.in_ok-moves.ensures.extends c.args.state c.get.result.now at1 in
-    let at3 = c.in_ok-numerals.ensures.extends c.args.state c.get.result.now at2 in
-    still-below c.go-2.new.self c.go-3.new.self c.args.state c.get.result.now c.in_ok-atoms.ensures.extends at3
+go-requires-4-clause-state g c =
+    let at1 = c.go.ensures.extends c.args.state c.get.result.now c.get.ensures in
+    let at2 = c.moves_of.ensures.extends c.args.state c.get.result.now at1 in
+    let at3 = c.go-2.ensures.extends c.args.state c.get.result.now at2 in
+    still-below c.go-2.new.self c.go-3.new.self c.args.state c.get.result.now c.go-3.ensures.extends at3
 
 pub go-requires-4-clause-reached : goal.go-requires-4-clause-reached
-go-requires-4-clause-reached c =
-    let at1 = c.in_ok-skip.ensures.extends c.args.state c.get-2.result.now c.get-2.ensures in
-    let at2 = c.in_ok-moves.ensures.extends c.args.state c.get-2.result.now at1 in
-    let at3 = c.in_ok-numerals.ensures.extends c.args.state c.get-2.result.now at2 in
-    let at4 = c.in_ok-atoms.ensures.extends c.args.state c.get-2.result.now at3 in
+go-requires-4-clause-reached g c =
+    let at1 = c.go.ensures.extends c.args.state c.get-2.result.now c.get-2.ensures in
+    let at2 = c.moves_of.ensures.extends c.args.state c.get-2.result.now at1 in
+    let at3 = c.go-2.ensures.extends c.args.state c.get-2.result.now at2 in
+    let at4 = c.go-3.ensures.extends c.args.state c.get-2.result.now at3 in
     subst (KeepsReachable c.args.rules.now c.go-3.new.self c.args.state) (sym c.other-3.ensures)
     (keeps-other c.args.rules.now c.go-3.new.self c.args.state c.requires.rules c.in_ok-heads.heads.keys (named-at c.args.rules.now c.go-3.new.self c.args.state c.get-2.result.now c.in_ok-heads.heads.keys at4 c.in_ok-heads.ensures) 3 (fresh-string c.in_ok-heads.heads.keys))
 
 pub returns-clause-extends : goal.returns-clause-extends
-returns-clause-extends c =
-    extends-both c.args.search.now c.go.new.self c.go-4.new.self c.in_ok-skip.ensures.extends
-    (extends-both c.go.new.self c.moves_of.new.search c.go-4.new.self c.in_ok-moves.ensures.extends
-    (extends-both c.moves_of.new.search c.go-2.new.self c.go-4.new.self c.in_ok-numerals.ensures.extends
-    (extends-both c.go-2.new.self c.go-3.new.self c.go-4.new.self c.in_ok-atoms.ensures.extends c.in_ok-strings.ensures.extends)))
+returns-clause-extends g c =
+    extends-both c.args.search.now c.go.new.self c.go-4.new.self c.go.ensures.extends
+    (extends-both c.go.new.self c.moves_of.new.search c.go-4.new.self c.moves_of.ensures.extends
+    (extends-both c.moves_of.new.search c.go-2.new.self c.go-4.new.self c.go-2.ensures.extends
+    (extends-both c.go-2.new.self c.go-3.new.self c.go-4.new.self c.go-3.ensures.extends c.go-4.ensures.extends)))
 
 pub returns-clause-row : goal.returns-clause-row
-returns-clause-row c = λ items at0.
+returns-clause-row g c = λ items at0.
     let rules = c.args.rules.now in
     let s1 = c.go.new.self in
     let s2 = c.moves_of.new.search in
     let s3 = c.go-2.new.self in
     let s4 = c.go-3.new.self in
     let s5 = c.go-4.new.self in
-    let e2 = c.in_ok-moves.ensures.extends in
-    let e3 = c.in_ok-numerals.ensures.extends in
-    let e4 = c.in_ok-atoms.ensures.extends in
-    let e5 = c.in_ok-strings.ensures.extends in
-    let at1 = c.in_ok-skip.ensures.extends c.args.state items at0 in
+    let e2 = c.moves_of.ensures.extends in
+    let e3 = c.go-2.ensures.extends in
+    let e4 = c.go-3.ensures.extends in
+    let e5 = c.go-4.ensures.extends in
+    let at1 = c.go.ensures.extends c.args.state items at0 in
     let at2 = e2 c.args.state items at1 in
     let at3 = e3 c.args.state items at2 in
     let at4 = e4 c.args.state items at3 in

@@ -2,7 +2,7 @@ use Rattle.match_tables.proofs.Starting.{found-start, stands-start, tables-are}
 use Rattle.match_tables.proofs.tables.find.Goals as goal
 
 pub roots_of-requires-clause-found : goal.roots_of-requires-clause-found
-roots_of-requires-clause-found c = found-start c.args.rules.now c.in_ok-search.search c.in_ok-search.ensures
+roots_of-requires-clause-found c = found-start c.args.rules.now c.in_ok-search.search c.in_ok-search.ensures 4194304
 
 pub roots_of-requires-clause-start : goal.roots_of-requires-clause-start
 roots_of-requires-clause-start c = stands-start c.args.rules.now c.in_ok-search.search c.in_ok-search.ensures
@@ -11,5 +11,5 @@ pub returns-clause-ok : goal.returns-clause-ok
 returns-clause-ok c =
     tables-are c.args.rules.now _ c.in_ok-search.search c.roots_of.new.search c.states_of.new.search c.finish.ensures
     c.requires c.in_ok-ends.ensures (stands-start c.args.rules.now c.in_ok-search.search c.in_ok-search.ensures)
-    c.in_ok-roots.ensures.extends c.in_ok-roots.ensures.roots c.in_ok-states.ensures.extends c.in_ok-states.ensures.as_many
+    c.roots_of.ensures.extends c.in_ok-roots.ensures.roots c.in_ok-states.ensures.extends c.in_ok-states.ensures.as_many
     c.in_ok-states.ensures.rows c.in_ok-states.ensures.found
