@@ -1,11 +1,19 @@
 use Rattle.std.proofs.Common.{[], length-append, ◌∷◌, arith}
+use Rattle.std.proofs.lemmas.Option.{slice_get_within}
 use Rattle.match_tables.proofs.Extending.{extends-both}
 use Rattle.match_tables.proofs.Fresh.{keeps-read}
 use Rattle.match_tables.proofs.Rooted.{roots-push, no-root}
 use Rattle.match_tables.proofs.roots.roots_of.Goals as goal
 
-pub go-requires-clause-reached : goal.go-requires-clause-reached
-go-requires-clause-reached g c = keeps-read c.args.rules.now c.loop-symbol.search 0 _
+pub go-requires : goal.go-requires
+go-requires g c = (
+  omega arith,
+  (c.requires.rules,
+  (c.requires.ends,
+  (c.loop-symbol.invariant.0,
+  (slice_get_within c.loop-symbol.search 0 [] (c.loop-symbol.invariant.1 0 [] c.requires.start),
+  keeps-read c.args.rules.now c.loop-symbol.search 0 _)))),
+)
 
 pub loop-symbol-preserved : goal.loop-symbol-preserved
 loop-symbol-preserved g c =

@@ -1,15 +1,20 @@
+use Rattle.std.proofs.Common.{arith}
 use Rattle.match_tables.proofs.Moved.{element-at}
 use Rattle.match_tables.proofs.Extending.{still-below, extends-both, moves-push}
 use Rattle.match_tables.proofs.Fresh.{keeps-read}
 use Rattle.match_tables.proofs.row.moves_of.Goals as goal
 
-pub go-requires-clause-state : goal.go-requires-clause-state
-go-requires-clause-state g c =
+pub go-requires : goal.go-requires
+go-requires g c =
     let here = element-at c.args.search.now c.args.state c.requires.state in
-    still-below c.args.search.now c.loop-head.search c.args.state here.0 c.loop-head.invariant.1 here.1
-
-pub go-requires-clause-reached : goal.go-requires-clause-reached
-go-requires-clause-reached g c = keeps-read c.args.rules.now c.loop-head.search c.args.state _
+    (
+      omega arith,
+      (c.requires.rules,
+      (c.requires.ends,
+      (c.loop-head.invariant.0,
+      (still-below c.args.search.now c.loop-head.search c.args.state here.0 c.loop-head.invariant.1 here.1,
+      keeps-read c.args.rules.now c.loop-head.search c.args.state _)))),
+    )
 
 pub loop-head-preserved : goal.loop-head-preserved
 loop-head-preserved g c = (

@@ -1,4 +1,4 @@
-use Rattle.std.proofs.Common.{sym, subst}
+use Rattle.std.proofs.Common.{sym, subst, arith}
 use Rattle.match_tables.specs.Searching.{KeepsReachable}
 use Rattle.match_tables.specs.Answering.{IsWanted}
 use Rattle.match_tables.specs.Rows.{HaveNamed, AreRight, IsRight}
@@ -12,53 +12,66 @@ want_of-want-requires-clause-items g c = c.requires.found.each c.args.state c.ge
 pub heads_of-requires : goal.heads_of-requires
 heads_of-requires g c = record { items = c.requires.found.each c.args.state c.get-2.result.now c.get-2.ensures }
 
-pub go-requires-clause-reached : goal.go-requires-clause-reached
-go-requires-clause-reached g c = keeps-skip c.args.rules.now c.args.search.now c.args.state
+pub go-requires : goal.go-requires
+go-requires g c = (
+  omega arith,
+  (c.requires.rules,
+  (c.requires.ends,
+  (c.requires.found,
+  (c.requires.state,
+  keeps-skip c.args.rules.now c.args.search.now c.args.state)))),
+)
 
-pub moves_of-requires-clause-state : goal.moves_of-requires-clause-state
-moves_of-requires-clause-state g c = still-below c.args.search.now c.go.new.self c.args.state c.get.result.now c.go.ensures.extends c.get.ensures
+pub moves_of-requires : goal.moves_of-requires
+moves_of-requires g c = (
+  omega arith,
+  (c.requires.rules,
+  (c.requires.ends,
+  (c.go.ensures.found,
+  still-below c.args.search.now c.go.new.self c.args.state c.get.result.now c.go.ensures.extends c.get.ensures))),
+)
 
-pub go-requires-2-clause-state : goal.go-requires-2-clause-state
-go-requires-2-clause-state g c =
-    let at1 = c.go.ensures.extends c.args.state c.get.result.now c.get.ensures in
-    still-below c.go.new.self c.moves_of.new.search c.args.state c.get.result.now c.moves_of.ensures.extends at1
+pub go-requires-2 : goal.go-requires-2
+go-requires-2 g c =
+    let e2 = extends-both c.args.search.now c.go.new.self c.moves_of.new.search c.go.ensures.extends c.moves_of.ensures.extends in
+    (
+      omega arith,
+      (c.requires.rules,
+      (c.requires.ends,
+      (c.moves_of.ensures.found,
+      (still-below c.args.search.now c.moves_of.new.search c.args.state c.get.result.now e2 c.get.ensures,
+      subst (KeepsReachable c.args.rules.now c.moves_of.new.search c.args.state) (sym c.other.ensures)
+      (keeps-other c.args.rules.now c.moves_of.new.search c.args.state c.requires.rules c.in_ok-heads.heads.keys (named-at c.args.rules.now c.moves_of.new.search c.args.state c.get-2.result.now c.in_ok-heads.heads.keys (e2 c.args.state c.get-2.result.now c.get-2.ensures) c.in_ok-heads.ensures) 0 (fresh-numeral c.in_ok-heads.heads.keys)))))),
+    )
 
-pub go-requires-2-clause-reached : goal.go-requires-2-clause-reached
-go-requires-2-clause-reached g c =
-    let at1 = c.go.ensures.extends c.args.state c.get-2.result.now c.get-2.ensures in
-    let at2 = c.moves_of.ensures.extends c.args.state c.get-2.result.now at1 in
-    subst (KeepsReachable c.args.rules.now c.moves_of.new.search c.args.state) (sym c.other.ensures)
-    (keeps-other c.args.rules.now c.moves_of.new.search c.args.state c.requires.rules c.in_ok-heads.heads.keys (named-at c.args.rules.now c.moves_of.new.search c.args.state c.get-2.result.now c.in_ok-heads.heads.keys at2 c.in_ok-heads.ensures) 0 (fresh-numeral c.in_ok-heads.heads.keys))
+pub go-requires-3 : goal.go-requires-3
+go-requires-3 g c =
+    let e2 = extends-both c.args.search.now c.go.new.self c.moves_of.new.search c.go.ensures.extends c.moves_of.ensures.extends in
+    let e3 = extends-both c.args.search.now c.moves_of.new.search c.go-2.new.self e2 c.go-2.ensures.extends in
+    (
+      omega arith,
+      (c.requires.rules,
+      (c.requires.ends,
+      (c.go-2.ensures.found,
+      (still-below c.args.search.now c.go-2.new.self c.args.state c.get.result.now e3 c.get.ensures,
+      subst (KeepsReachable c.args.rules.now c.go-2.new.self c.args.state) (sym c.other-2.ensures)
+      (keeps-other c.args.rules.now c.go-2.new.self c.args.state c.requires.rules c.in_ok-heads.heads.keys (named-at c.args.rules.now c.go-2.new.self c.args.state c.get-2.result.now c.in_ok-heads.heads.keys (e3 c.args.state c.get-2.result.now c.get-2.ensures) c.in_ok-heads.ensures) 1 (fresh-atom c.in_ok-heads.heads.keys)))))),
+    )
 
-pub go-requires-3-clause-state : goal.go-requires-3-clause-state
-go-requires-3-clause-state g c =
-    let at1 = c.go.ensures.extends c.args.state c.get.result.now c.get.ensures in
-    let at2 = c.moves_of.ensures.extends c.args.state c.get.result.now at1 in
-    still-below c.moves_of.new.search c.go-2.new.self c.args.state c.get.result.now c.go-2.ensures.extends at2
-
-pub go-requires-3-clause-reached : goal.go-requires-3-clause-reached
-go-requires-3-clause-reached g c =
-    let at1 = c.go.ensures.extends c.args.state c.get-2.result.now c.get-2.ensures in
-    let at2 = c.moves_of.ensures.extends c.args.state c.get-2.result.now at1 in
-    let at3 = c.go-2.ensures.extends c.args.state c.get-2.result.now at2 in
-    subst (KeepsReachable c.args.rules.now c.go-2.new.self c.args.state) (sym c.other-2.ensures)
-    (keeps-other c.args.rules.now c.go-2.new.self c.args.state c.requires.rules c.in_ok-heads.heads.keys (named-at c.args.rules.now c.go-2.new.self c.args.state c.get-2.result.now c.in_ok-heads.heads.keys at3 c.in_ok-heads.ensures) 1 (fresh-atom c.in_ok-heads.heads.keys))
-
-pub go-requires-4-clause-state : goal.go-requires-4-clause-state
-go-requires-4-clause-state g c =
-    let at1 = c.go.ensures.extends c.args.state c.get.result.now c.get.ensures in
-    let at2 = c.moves_of.ensures.extends c.args.state c.get.result.now at1 in
-    let at3 = c.go-2.ensures.extends c.args.state c.get.result.now at2 in
-    still-below c.go-2.new.self c.go-3.new.self c.args.state c.get.result.now c.go-3.ensures.extends at3
-
-pub go-requires-4-clause-reached : goal.go-requires-4-clause-reached
-go-requires-4-clause-reached g c =
-    let at1 = c.go.ensures.extends c.args.state c.get-2.result.now c.get-2.ensures in
-    let at2 = c.moves_of.ensures.extends c.args.state c.get-2.result.now at1 in
-    let at3 = c.go-2.ensures.extends c.args.state c.get-2.result.now at2 in
-    let at4 = c.go-3.ensures.extends c.args.state c.get-2.result.now at3 in
-    subst (KeepsReachable c.args.rules.now c.go-3.new.self c.args.state) (sym c.other-3.ensures)
-    (keeps-other c.args.rules.now c.go-3.new.self c.args.state c.requires.rules c.in_ok-heads.heads.keys (named-at c.args.rules.now c.go-3.new.self c.args.state c.get-2.result.now c.in_ok-heads.heads.keys at4 c.in_ok-heads.ensures) 3 (fresh-string c.in_ok-heads.heads.keys))
+pub go-requires-4 : goal.go-requires-4
+go-requires-4 g c =
+    let e2 = extends-both c.args.search.now c.go.new.self c.moves_of.new.search c.go.ensures.extends c.moves_of.ensures.extends in
+    let e3 = extends-both c.args.search.now c.moves_of.new.search c.go-2.new.self e2 c.go-2.ensures.extends in
+    let e4 = extends-both c.args.search.now c.go-2.new.self c.go-3.new.self e3 c.go-3.ensures.extends in
+    (
+      omega arith,
+      (c.requires.rules,
+      (c.requires.ends,
+      (c.go-3.ensures.found,
+      (still-below c.args.search.now c.go-3.new.self c.args.state c.get.result.now e4 c.get.ensures,
+      subst (KeepsReachable c.args.rules.now c.go-3.new.self c.args.state) (sym c.other-3.ensures)
+      (keeps-other c.args.rules.now c.go-3.new.self c.args.state c.requires.rules c.in_ok-heads.heads.keys (named-at c.args.rules.now c.go-3.new.self c.args.state c.get-2.result.now c.in_ok-heads.heads.keys (e4 c.args.state c.get-2.result.now c.get-2.ensures) c.in_ok-heads.ensures) 3 (fresh-string c.in_ok-heads.heads.keys)))))),
+    )
 
 pub returns-clause-extends : goal.returns-clause-extends
 returns-clause-extends g c =
@@ -95,3 +108,10 @@ returns-clause-row g c = λ items at0.
       atoms = subst (λ by. IsRight rules s5 items by c.in_ok-atoms.atoms) c.other-2.ensures (extends-right rules s4 s5 e5 items c.other-2.result c.in_ok-atoms.atoms (c.in_ok-atoms.ensures.right items at3));
       strings = subst (λ by. IsRight rules s5 items by c.in_ok-strings.strings) c.other-3.ensures (c.in_ok-strings.ensures.right items at4);
     }
+
+pub returns-in_err-strings-clause-extends : goal.returns-in_err-strings-clause-extends
+returns-in_err-strings-clause-extends g c =
+    extends-both c.args.search.now c.go.new.self c.go-4.new.self c.go.ensures.extends
+    (extends-both c.go.new.self c.moves_of.new.search c.go-4.new.self c.moves_of.ensures.extends
+    (extends-both c.moves_of.new.search c.go-2.new.self c.go-4.new.self c.go-2.ensures.extends
+    (extends-both c.go-2.new.self c.go-3.new.self c.go-4.new.self c.go-3.ensures.extends c.go-4.ensures.extends)))

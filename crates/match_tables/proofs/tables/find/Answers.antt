@@ -1,11 +1,16 @@
+use Rattle.std.proofs.Common.{sym, subst, arith}
+use Rattle.match_tables.specs.Completing.{AreEnds}
 use Rattle.match_tables.proofs.Starting.{found-start, stands-start, tables-are}
 use Rattle.match_tables.proofs.tables.find.Goals as goal
 
-pub roots_of-requires-clause-found : goal.roots_of-requires-clause-found
-roots_of-requires-clause-found c = found-start c.args.rules.now c.in_ok-search.search c.in_ok-search.ensures 4194304
-
-pub roots_of-requires-clause-start : goal.roots_of-requires-clause-start
-roots_of-requires-clause-start c = stands-start c.args.rules.now c.in_ok-search.search c.in_ok-search.ensures
+pub roots_of-requires : goal.roots_of-requires
+roots_of-requires c = (
+  omega arith,
+  (c.requires,
+  (subst (AreEnds c.args.rules.now) (sym c.deref.ensures.value) c.in_ok-ends.ensures,
+  (found-start c.args.rules.now c.in_ok-search.search c.in_ok-search.ensures 4194304,
+  stands-start c.args.rules.now c.in_ok-search.search c.in_ok-search.ensures))),
+)
 
 pub returns-clause-ok : goal.returns-clause-ok
 returns-clause-ok c =
