@@ -8,6 +8,7 @@ mod known;
 mod on_demand;
 mod roots;
 mod row;
+mod rows;
 mod search;
 mod sets;
 mod states;

@@ -1,11 +1,12 @@
 // Item sets that are found as a reading comes to them.
-ghost use Rattle.std.specs.Prelude.{◌≡◌, ◌<◌, length, IfOk, OnOk, Some, slice_get};
+ghost use Rattle.std.specs.Prelude.{◌<◌, length, IfOk, OnOk};
 ghost use Rattle.eq_base.specs.RuleList.{RuleList};
 
 use crate::advance::{Advance, Want};
 use crate::completed::{End, ends_of};
 use crate::roots::roots_of;
 use crate::row::{State, state_of, want_of};
+use crate::rows::Rows;
 use crate::search::{Move, Search, Stop};
 use crate::states::States;
 use eq_base::{Head, NoMemory, Rules};
@@ -24,12 +25,14 @@ pub struct OnDemand<'a> {
     ends: Vec<End>,
     roots: Vec<Move>,
     search: Search<ANY_NUMBER>,
-    rows: Vec<Option<Box<State>>>,
+    rows: Rows,
 }
 
 impl<'a> OnDemand<'a> {
+    ghost use Rattle.match_laws.specs.Items.{ItemSet};
+    ghost use Rattle.match_tables.specs.Answering.{StandsFor, IsAdvance, SkipLeads};
     ghost use Rattle.match_tables.specs.Searching.{Extends};
-    ghost use Rattle.match_tables.specs.Made.{AreStatesOf, IsMade, IsRowAt};
+    ghost use Rattle.match_tables.specs.Made.{AreStatesOf, HasRow, IsMade};
 
     /// The states of equations, of which only those are known to which symbols lead from the roots alone.
     ///
@@ -49,7 +52,7 @@ impl<'a> OnDemand<'a> {
             ends,
             roots,
             search,
-            rows: Vec::new(alloc),
+            rows: Rows::new(alloc),
         })
     }
 
@@ -59,37 +62,46 @@ impl<'a> OnDemand<'a> {
         requires state { state < length self.old.search }
         ensures are { AreStatesOf self.old.rules.now self.new }
         ensures extends { Extends self.old.search self.new.search }
-        ensures made { OnOk result (IsMade self.new.rows.items state) }
+        ensures made { OnOk result (IsMade self.new.rows state) }
     {
-        self.make_room(state)?;
-        if self.rows[state].is_none() {
-            let row = state_of(self.alloc, &mut self.search, self.rules, &self.ends, state)
-                .map_err(no_memory)?;
-            self.rows[state] = Some(Box::new(self.alloc, row)?);
+        if self.rows.get(state).is_none() {
+            let row = state_of(
+                self.alloc,
+                &mut self.search,
+                self.rules,
+                &self.ends,
+                state,
+            )
+            .map_err(no_memory)?;
+            self.rows.put(self.alloc, state, row)?;
         }
         Ok(())
     }
 
-    // Makes room for the row of a state.
-    fn make_room(&mut self, state: usize) -> Result<(), NoMemory>
-        requires { AreStatesOf self.old.rules.now self.old }
-        ensures are { AreStatesOf self.old.rules.now self.new }
-        ensures same { self.new.search ≡ self.old.search }
-        ensures rules { self.new.rules ≡ self.old.rules }
-        ensures room { OnOk result (state < length self.new.rows.items) }
+    // Where a head leads from a state that has its row.
+    fn known_read(&self, state: usize, head: Head) -> Advance
+        requires { IsMade self.now.rows state }
+        ensures { (rules : RuleList) → AreStatesOf rules self.now → (items : ItemSet)
+            → StandsFor self.now.search state items → IsAdvance rules self.now.search items head result }
     {
-        while self.rows.len() <= state {
-            self.rows.push(None)?;
-        }
-        Ok(())
+        self.row(state).read(&self.roots, &self.ends, head)
+    }
+
+    // Where a skip leads from a state that has its row.
+    fn known_skip(&self, state: usize) -> usize
+        requires { IsMade self.now.rows state }
+        ensures { (rules : RuleList) → AreStatesOf rules self.now → (items : ItemSet)
+            → StandsFor self.now.search state items → SkipLeads rules self.now.search items result }
+    {
+        self.row(state).skip
     }
 
     // The row of a state that has one.
     fn row(&self, state: usize) -> &State
-        requires { IsMade self.now.rows.items state }
-        ensures { IsRowAt self.now.rows.items state result.now }
+        requires { IsMade self.now.rows state }
+        ensures { HasRow self.now.rows state result.now }
     {
-        self.rows[state].as_ref().unwrap()
+        self.rows.get(state).unwrap()
     }
 }
 
@@ -106,19 +118,18 @@ impl<'a> States for OnDemand<'a> {
 
     fn read(&mut self, state: usize, head: Head) -> Result<Advance, NoMemory> {
         self.make_row(state)?;
-        Ok(self.row(state).read(&self.roots, &self.ends, head))
+        Ok(self.known_read(state, head))
     }
 
     fn skip(&mut self, state: usize) -> Result<usize, NoMemory> {
         self.make_row(state)?;
-        Ok(self.row(state).skip)
+        Ok(self.known_skip(state))
     }
 
     fn wants(&self, state: usize) -> Want {
-        if let Some(Some(row)) = self.rows.get(state) {
-            row.want
-        } else {
-            want_of(self.rules, self.search.get(state))
+        match self.rows.get(state) {
+            Some(row) => row.want,
+            None => want_of(self.rules, self.search.get(state)),
         }
     }
 }
