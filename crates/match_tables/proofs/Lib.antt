@@ -19,3 +19,4 @@ pub mod Closed
 pub mod Starting
 pub mod Lasts
 pub mod LastCells
+pub mod Making

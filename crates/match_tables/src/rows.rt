@@ -28,10 +28,11 @@ impl Rows {
     pub fn get(&self, state: usize) -> Option<&State>
         ensures { IsRowIn self.now state (option_copied result) }
     {
-        match self.places.get(state) {
-            Some(Some(row)) => Some(row),
-            _ => None,
+        if self.places.len() <= state {
+            return None;
         }
+        let row = self.places[state].as_ref()?;
+        Some(row)
     }
 
     /// Makes a row that of a state. Out of memory leaves each row.
