@@ -7,13 +7,13 @@ use crate::completed::{End, ends_of};
 use crate::roots::roots_of;
 use crate::row::{State, state_of, want_of};
 use crate::rows::Rows;
-use crate::search::{Move, Search, Stop};
+use crate::search::{Move, Search};
 use crate::states::States;
 use eq_base::{Head, NoMemory, Rules};
 use sequentiality::Regular;
 use std::alloc::Global;
 
-// Only memory bounds the item sets.
+// A search without a limit: only memory stops it.
 const ANY_NUMBER: usize = usize::MAX;
 
 /// Where the heads of terms lead from one item set to the next, found as it is asked for: a state gets its row with
@@ -45,7 +45,9 @@ impl<'a> OnDemand<'a> {
         let rules = regular.rules();
         let ends = ends_of(alloc, rules)?;
         let mut search = Search::new(alloc)?;
-        let roots = roots_of(alloc, &mut search, rules, &ends).map_err(no_memory)?;
+        let Ok(roots) = roots_of(alloc, &mut search, rules, &ends) else {
+            return Err(NoMemory);
+        };
         Ok(OnDemand {
             alloc,
             rules,
@@ -65,14 +67,15 @@ impl<'a> OnDemand<'a> {
         ensures made { OnOk result (IsMade self.new.rows state) }
     {
         if self.rows.get(state).is_none() {
-            let row = state_of(
+            let Ok(row) = state_of(
                 self.alloc,
                 &mut self.search,
                 self.rules,
                 &self.ends,
                 state,
-            )
-            .map_err(no_memory)?;
+            ) else {
+                return Err(NoMemory);
+            };
             self.rows.put(self.alloc, state, row)?;
         }
         Ok(())
@@ -132,9 +135,4 @@ impl<'a> States for OnDemand<'a> {
             None => want_of(self.rules, self.search.get(state)),
         }
     }
-}
-
-// Why a search without a limit stops.
-fn no_memory(_stop: Stop) -> NoMemory {
-    NoMemory
 }
