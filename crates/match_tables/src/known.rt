@@ -7,7 +7,8 @@ use crate::states::States;
 use crate::tables::Tables;
 use eq_base::{Head, NoMemory};
 
-/// Tables as the states of a reading: all item sets are known, and no call takes memory.
+/// Tables as the states of a reading: all item sets are known, and each call answers as that of the tables, without
+/// taking memory.
 #[derive(Clone, Copy)]
 pub struct Known<'a> {
     pub tables: &'a Tables,

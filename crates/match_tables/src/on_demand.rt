@@ -34,7 +34,7 @@ impl<'a> OnDemand<'a> {
     ghost use Rattle.match_tables.specs.Searching.{Extends};
     ghost use Rattle.match_tables.specs.Made.{AreStatesOf, HasRow, IsMade};
 
-    /// The states of equations, of which only those are known to which symbols lead from the roots alone.
+    /// The states of equations. At first only those are known to which symbols lead from the roots alone.
     ///
     /// # Errors
     ///
@@ -67,13 +67,8 @@ impl<'a> OnDemand<'a> {
         ensures made { OnOk result (IsMade self.new.rows state) }
     {
         if self.rows.get(state).is_none() {
-            let Ok(row) = state_of(
-                self.alloc,
-                &mut self.search,
-                self.rules,
-                &self.ends,
-                state,
-            ) else {
+            let Ok(row) = state_of(self.alloc, &mut self.search, self.rules, &self.ends, state)
+            else {
                 return Err(NoMemory);
             };
             self.rows.put(self.alloc, state, row)?;
@@ -81,8 +76,8 @@ impl<'a> OnDemand<'a> {
         Ok(())
     }
 
-    // Where a head leads from a state that has its row.
-    fn known_read(&self, state: usize, head: Head) -> Advance
+    // Where a head leads, by the row of the state.
+    fn read_by_row(&self, state: usize, head: Head) -> Advance
         requires { IsMade self.now.rows state }
         ensures { (rules : RuleList) → AreStatesOf rules self.now → (items : ItemSet)
             → StandsFor self.now.search state items → IsAdvance rules self.now.search items head result }
@@ -90,8 +85,8 @@ impl<'a> OnDemand<'a> {
         self.row(state).read(&self.roots, &self.ends, head)
     }
 
-    // Where a skip leads from a state that has its row.
-    fn known_skip(&self, state: usize) -> usize
+    // Where a skip leads, by the row of the state.
+    fn skip_by_row(&self, state: usize) -> usize
         requires { IsMade self.now.rows state }
         ensures { (rules : RuleList) → AreStatesOf rules self.now → (items : ItemSet)
             → StandsFor self.now.search state items → SkipLeads rules self.now.search items result }
@@ -121,12 +116,12 @@ impl<'a> States for OnDemand<'a> {
 
     fn read(&mut self, state: usize, head: Head) -> Result<Advance, NoMemory> {
         self.make_row(state)?;
-        Ok(self.known_read(state, head))
+        Ok(self.read_by_row(state, head))
     }
 
     fn skip(&mut self, state: usize) -> Result<usize, NoMemory> {
         self.make_row(state)?;
-        Ok(self.known_skip(state))
+        Ok(self.skip_by_row(state))
     }
 
     fn wants(&self, state: usize) -> Want {

@@ -8,11 +8,19 @@ use Rattle.match_tables.proofs.roots.roots_of.Goals as goal
 pub go-requires : goal.go-requires
 go-requires g c = (
   omega arith,
-  (c.requires.rules,
-  (c.requires.ends,
-  (c.loop-symbol.invariant.0,
-  (slice_get_within c.loop-symbol.search 0 [] (c.loop-symbol.invariant.1 0 [] c.requires.start),
-  keeps-read c.args.rules.now c.loop-symbol.search 0 _)))),
+  (
+    c.requires.rules,
+    (
+      c.requires.ends,
+      (
+        c.loop-symbol.invariant.0,
+        (
+          slice_get_within c.loop-symbol.search 0 [] (c.loop-symbol.invariant.1 0 [] c.requires.start),
+          keeps-read c.args.rules.now c.loop-symbol.search 0 _,
+        ),
+      ),
+    ),
+  ),
 )
 
 pub loop-symbol-preserved : goal.loop-symbol-preserved

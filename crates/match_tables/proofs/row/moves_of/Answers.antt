@@ -6,14 +6,21 @@ use Rattle.match_tables.proofs.row.moves_of.Goals as goal
 
 pub go-requires : goal.go-requires
 go-requires g c =
-    let here = element-at c.args.search.now c.args.state c.requires.state in
-    (
+    let here = element-at c.args.search.now c.args.state c.requires.state in (
       omega arith,
-      (c.requires.rules,
-      (c.requires.ends,
-      (c.loop-head.invariant.0,
-      (still-below c.args.search.now c.loop-head.search c.args.state here.0 c.loop-head.invariant.1 here.1,
-      keeps-read c.args.rules.now c.loop-head.search c.args.state _)))),
+      (
+        c.requires.rules,
+        (
+          c.requires.ends,
+          (
+            c.loop-head.invariant.0,
+            (
+              still-below c.args.search.now c.loop-head.search c.args.state here.0 c.loop-head.invariant.1 here.1,
+              keeps-read c.args.rules.now c.loop-head.search c.args.state _,
+            ),
+          ),
+        ),
+      ),
     )
 
 pub loop-head-preserved : goal.loop-head-preserved

@@ -15,62 +15,97 @@ heads_of-requires g c = record { items = c.requires.found.each c.args.state c.ge
 pub go-requires : goal.go-requires
 go-requires g c = (
   omega arith,
-  (c.requires.rules,
-  (c.requires.ends,
-  (c.requires.found,
-  (c.requires.state,
-  keeps-skip c.args.rules.now c.args.search.now c.args.state)))),
+  (
+    c.requires.rules,
+    (
+      c.requires.ends,
+      (
+        c.requires.found,
+        (
+          c.requires.state,
+          keeps-skip c.args.rules.now c.args.search.now c.args.state,
+        ),
+      ),
+    ),
+  ),
 )
 
 pub moves_of-requires : goal.moves_of-requires
 moves_of-requires g c = (
   omega arith,
-  (c.requires.rules,
-  (c.requires.ends,
-  (c.go.ensures.found,
-  still-below c.args.search.now c.go.new.self c.args.state c.get.result.now c.go.ensures.extends c.get.ensures))),
+  (
+    c.requires.rules,
+    (
+      c.requires.ends,
+      (
+        c.go.ensures.found,
+        still-below c.args.search.now c.go.new.self c.args.state c.get.result.now c.go.ensures.extends c.get.ensures,
+      ),
+    ),
+  ),
 )
 
 pub go-requires-2 : goal.go-requires-2
 go-requires-2 g c =
-    let e2 = extends-both c.args.search.now c.go.new.self c.moves_of.new.search c.go.ensures.extends c.moves_of.ensures.extends in
-    (
+    let e2 = extends-both c.args.search.now c.go.new.self c.moves_of.new.search c.go.ensures.extends c.moves_of.ensures.extends in (
       omega arith,
-      (c.requires.rules,
-      (c.requires.ends,
-      (c.moves_of.ensures.found,
-      (still-below c.args.search.now c.moves_of.new.search c.args.state c.get.result.now e2 c.get.ensures,
-      subst (KeepsReachable c.args.rules.now c.moves_of.new.search c.args.state) (sym c.other.ensures)
-      (keeps-other c.args.rules.now c.moves_of.new.search c.args.state c.requires.rules c.in_ok-heads.heads.keys (named-at c.args.rules.now c.moves_of.new.search c.args.state c.get-2.result.now c.in_ok-heads.heads.keys (e2 c.args.state c.get-2.result.now c.get-2.ensures) c.in_ok-heads.ensures) 0 (fresh-numeral c.in_ok-heads.heads.keys)))))),
+      (
+        c.requires.rules,
+        (
+          c.requires.ends,
+          (
+            c.moves_of.ensures.found,
+            (
+              still-below c.args.search.now c.moves_of.new.search c.args.state c.get.result.now e2 c.get.ensures,
+              subst (KeepsReachable c.args.rules.now c.moves_of.new.search c.args.state) (sym c.other.ensures)
+                  (keeps-other c.args.rules.now c.moves_of.new.search c.args.state c.requires.rules c.in_ok-heads.heads.keys (named-at c.args.rules.now c.moves_of.new.search c.args.state c.get-2.result.now c.in_ok-heads.heads.keys (e2 c.args.state c.get-2.result.now c.get-2.ensures) c.in_ok-heads.ensures) 0 (fresh-numeral c.in_ok-heads.heads.keys)),
+            ),
+          ),
+        ),
+      ),
     )
 
 pub go-requires-3 : goal.go-requires-3
 go-requires-3 g c =
     let e2 = extends-both c.args.search.now c.go.new.self c.moves_of.new.search c.go.ensures.extends c.moves_of.ensures.extends in
-    let e3 = extends-both c.args.search.now c.moves_of.new.search c.go-2.new.self e2 c.go-2.ensures.extends in
-    (
+    let e3 = extends-both c.args.search.now c.moves_of.new.search c.go-2.new.self e2 c.go-2.ensures.extends in (
       omega arith,
-      (c.requires.rules,
-      (c.requires.ends,
-      (c.go-2.ensures.found,
-      (still-below c.args.search.now c.go-2.new.self c.args.state c.get.result.now e3 c.get.ensures,
-      subst (KeepsReachable c.args.rules.now c.go-2.new.self c.args.state) (sym c.other-2.ensures)
-      (keeps-other c.args.rules.now c.go-2.new.self c.args.state c.requires.rules c.in_ok-heads.heads.keys (named-at c.args.rules.now c.go-2.new.self c.args.state c.get-2.result.now c.in_ok-heads.heads.keys (e3 c.args.state c.get-2.result.now c.get-2.ensures) c.in_ok-heads.ensures) 1 (fresh-atom c.in_ok-heads.heads.keys)))))),
+      (
+        c.requires.rules,
+        (
+          c.requires.ends,
+          (
+            c.go-2.ensures.found,
+            (
+              still-below c.args.search.now c.go-2.new.self c.args.state c.get.result.now e3 c.get.ensures,
+              subst (KeepsReachable c.args.rules.now c.go-2.new.self c.args.state) (sym c.other-2.ensures)
+                  (keeps-other c.args.rules.now c.go-2.new.self c.args.state c.requires.rules c.in_ok-heads.heads.keys (named-at c.args.rules.now c.go-2.new.self c.args.state c.get-2.result.now c.in_ok-heads.heads.keys (e3 c.args.state c.get-2.result.now c.get-2.ensures) c.in_ok-heads.ensures) 1 (fresh-atom c.in_ok-heads.heads.keys)),
+            ),
+          ),
+        ),
+      ),
     )
 
 pub go-requires-4 : goal.go-requires-4
 go-requires-4 g c =
     let e2 = extends-both c.args.search.now c.go.new.self c.moves_of.new.search c.go.ensures.extends c.moves_of.ensures.extends in
     let e3 = extends-both c.args.search.now c.moves_of.new.search c.go-2.new.self e2 c.go-2.ensures.extends in
-    let e4 = extends-both c.args.search.now c.go-2.new.self c.go-3.new.self e3 c.go-3.ensures.extends in
-    (
+    let e4 = extends-both c.args.search.now c.go-2.new.self c.go-3.new.self e3 c.go-3.ensures.extends in (
       omega arith,
-      (c.requires.rules,
-      (c.requires.ends,
-      (c.go-3.ensures.found,
-      (still-below c.args.search.now c.go-3.new.self c.args.state c.get.result.now e4 c.get.ensures,
-      subst (KeepsReachable c.args.rules.now c.go-3.new.self c.args.state) (sym c.other-3.ensures)
-      (keeps-other c.args.rules.now c.go-3.new.self c.args.state c.requires.rules c.in_ok-heads.heads.keys (named-at c.args.rules.now c.go-3.new.self c.args.state c.get-2.result.now c.in_ok-heads.heads.keys (e4 c.args.state c.get-2.result.now c.get-2.ensures) c.in_ok-heads.ensures) 3 (fresh-string c.in_ok-heads.heads.keys)))))),
+      (
+        c.requires.rules,
+        (
+          c.requires.ends,
+          (
+            c.go-3.ensures.found,
+            (
+              still-below c.args.search.now c.go-3.new.self c.args.state c.get.result.now e4 c.get.ensures,
+              subst (KeepsReachable c.args.rules.now c.go-3.new.self c.args.state) (sym c.other-3.ensures)
+                  (keeps-other c.args.rules.now c.go-3.new.self c.args.state c.requires.rules c.in_ok-heads.heads.keys (named-at c.args.rules.now c.go-3.new.self c.args.state c.get-2.result.now c.in_ok-heads.heads.keys (e4 c.args.state c.get-2.result.now c.get-2.ensures) c.in_ok-heads.ensures) 3 (fresh-string c.in_ok-heads.heads.keys)),
+            ),
+          ),
+        ),
+      ),
     )
 
 pub returns-clause-extends : goal.returns-clause-extends

@@ -6,10 +6,16 @@ use Rattle.match_tables.proofs.tables.find.Goals as goal
 pub roots_of-requires : goal.roots_of-requires
 roots_of-requires c = (
   omega arith,
-  (c.requires,
-  (subst (AreEnds c.args.rules.now) (sym c.deref.ensures.value) c.in_ok-ends.ensures,
-  (found-start c.args.rules.now c.in_ok-search.search c.in_ok-search.ensures 4194304,
-  stands-start c.args.rules.now c.in_ok-search.search c.in_ok-search.ensures))),
+  (
+    c.requires,
+    (
+      subst (AreEnds c.args.rules.now) (sym c.deref.ensures.value) c.in_ok-ends.ensures,
+      (
+        found-start c.args.rules.now c.in_ok-search.search c.in_ok-search.ensures 4194304,
+        stands-start c.args.rules.now c.in_ok-search.search c.in_ok-search.ensures,
+      ),
+    ),
+  ),
 )
 
 pub returns-clause-ok : goal.returns-clause-ok

@@ -6,9 +6,13 @@ use Rattle.match_tables.proofs.on_demand.OnDemand.make_row.Goals as goal
 pub state_of-requires : goal.state_of-requires
 state_of-requires c = (
   omega arith,
-  (c.requires.are.well_formed,
-  (subst (AreEnds c.args.self.now.rules.now) (sym c.deref.ensures.value) c.requires.are.ends,
-  (c.requires.are.found, c.requires.state))),
+  (
+    c.requires.are.well_formed,
+    (
+      subst (AreEnds c.args.self.now.rules.now) (sym c.deref.ensures.value) c.requires.are.ends,
+      (c.requires.are.found, c.requires.state),
+    ),
+  ),
 )
 
 pub returns-in_default-clause-are : goal.returns-in_default-clause-are

@@ -9,10 +9,16 @@ use Rattle.match_tables.proofs.on_demand.OnDemand.new.Goals as goal
 pub roots_of-requires : goal.roots_of-requires
 roots_of-requires c = (
   omega arith,
-  (subst AreWellFormed (sym c.rules-rules.ensures.value) c.rules-rules.ensures.regular.well_formed,
-  (subst (AreEnds c.rules-rules.result.now) (sym c.deref.ensures.value) c.in_ok-ends.ensures,
-  (found-start c.rules-rules.result.now c.in_ok-search.search c.in_ok-search.ensures 18446744073709551615,
-  stands-start c.rules-rules.result.now c.in_ok-search.search c.in_ok-search.ensures))),
+  (
+    subst AreWellFormed (sym c.rules-rules.ensures.value) c.rules-rules.ensures.regular.well_formed,
+    (
+      subst (AreEnds c.rules-rules.result.now) (sym c.deref.ensures.value) c.in_ok-ends.ensures,
+      (
+        found-start c.rules-rules.result.now c.in_ok-search.search c.in_ok-search.ensures 18446744073709551615,
+        stands-start c.rules-rules.result.now c.in_ok-search.search c.in_ok-search.ensures,
+      ),
+    ),
+  ),
 )
 
 pub returns : goal.returns

@@ -14,8 +14,10 @@ returns-clause-has c = record {
 pub returns-clause-puts : goal.returns-clause-puts
 returns-clause-puts c = λ other own has. ⊎_elim
     (λ before. inl (c.make_room.ensures.keeps other own (record { place = has.place; there = before; is = has.is })))
-    (λ here. inr (here.0,
-        (let filled = here.1 in
-        let same : c.in_ok-new.field-0 ≡ has.place = cc in
-        sym has.is ∙ sym (ap (λ (b : Box State). b.value) same) ∙ c.in_ok-new.ensures.ok)))
+    (λ here. inr (
+      here.0,
+      (let filled = here.1 in
+          let same : c.in_ok-new.field-0 ≡ has.place = cc in
+          sym has.is ∙ sym (ap (λ (b : Box State). b.value) same) ∙ c.in_ok-new.ensures.ok),
+    ))
     (written-or-before c.make_room.new.self.places.items c.args.state other (Some c.in_ok-new.field-0) (Some has.place) has.there)

@@ -1,7 +1,7 @@
 use Rattle.std.proofs.Common.{sym, subst}
 use Rattle.match_tables.specs.Completing.{AreEnds}
 use Rattle.match_tables.specs.Tabled.{AreRoots}
-use Rattle.match_tables.proofs.on_demand.OnDemand.known_read.Goals as goal
+use Rattle.match_tables.proofs.on_demand.OnDemand.read_by_row.Goals as goal
 
 pub returns : goal.returns
 returns c = λ rules are items at.
