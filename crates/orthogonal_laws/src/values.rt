@@ -1,11 +1,11 @@
 // Whether an equation that is met at a node gives something there, and what an operation gives.
 ghost use Rattle.std.specs.Prelude.{◌≡◌, ◌<◌, ◌↔◌, IsTrue};
-ghost use Rattle.eq_base.specs.Tree.{head_of, size, nth_subtree};
+ghost use Rattle.eq_base.specs.Tree.{size, nth_subtree};
 ghost use Rattle.eq_base.specs.Operations.{application, application_value};
 ghost use Rattle.eq_base.specs.declared.head.Head.{Head};
-ghost use Rattle.builtin.specs.Values.{IsRead, IsValue};
+ghost use Rattle.builtin.specs.Values.{IsRead, IsValue, value_by};
 ghost use Rattle.symbol_table.specs.Table.{HasOneNumberEach};
-ghost use Rattle.symbol_table.specs.Reading.{read_head, read, IsLiveTerm};
+ghost use Rattle.symbol_table.specs.Reading.{read_head, read, IsLiveHead, IsLiveTerm};
 ghost use Rattle.regularity.specs.WellFormed.{IsApplicationOf};
 ghost use Rattle.orthogonal_laws.specs.Matching.{HasShapeOf};
 ghost use Rattle.orthogonal_laws.specs.Results.{HasResult, HasNumberOf};
@@ -44,22 +44,33 @@ pub fn value_at(op: Op, symbols: &Symbols, term: &Flat, at: usize) -> Value
 {
     let len = term.len();
     prove!(at < len);
-    let one = operand_at(symbols, term, at + 1);
+    let one = term.head(at + 1);
     let other = match op {
-        Op::LengthStr => Operand::Other,
-        _ => operand_at(symbols, term, at + 2),
+        Op::LengthStr => one,
+        _ => term.head(at + 2),
     };
-    evaluate(op, one, other)
+    value_over(op, symbols, one, other)
 }
 
-// The operand at a node.
-fn operand_at<'a>(symbols: &'a Symbols, term: &Flat, at: usize) -> Operand<'a>
-    requires live { IsLiveTerm symbols.now term.now }
-    requires at { at < size term.now }
-    ensures read { IsRead result (read_head symbols.now (head_of (nth_subtree term.now at))) }
-    ensures number { HasNumberOf result (head_of (nth_subtree term.now at)) }
+/// The value of an operation over constants with these heads. The length of a string looks at the first alone.
+pub fn value_over(op: Op, symbols: &Symbols, one: Head, other: Head) -> Value
+    requires distinct { HasOneNumberEach symbols.now }
+    requires one_live { IsLiveHead symbols.now one }
+    requires other_live { IsLiveHead symbols.now other }
+    ensures { IsValue (value_by op (read_head symbols.now one) (read_head symbols.now other)) result }
 {
-    match term.head(at) {
+    let first = operand_of(symbols, one);
+    let second = operand_of(symbols, other);
+    evaluate(op, first, second)
+}
+
+// The operand with this head.
+fn operand_of<'a>(symbols: &'a Symbols, head: Head) -> Operand<'a>
+    requires { IsLiveHead symbols.now head }
+    ensures read { IsRead result (read_head symbols.now head) }
+    ensures number { HasNumberOf result head }
+{
+    match head {
         Head::Symbol(_) => Operand::Other,
         Head::Numeral(value) => Operand::Numeral(value),
         Head::Atom(number) => Operand::Atom(number),
