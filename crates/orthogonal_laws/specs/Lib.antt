@@ -14,3 +14,4 @@ pub mod Addition
 pub mod Operations
 pub mod Results
 pub mod Readings
+pub mod Fitting
