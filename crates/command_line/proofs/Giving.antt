@@ -1,16 +1,18 @@
 -- What parts give, with one part more.
 use Rattle.std.proofs.Common.{◌≡◌, ℕ, Bool, true, false, List, [], ◌∷◌, ◌++◌, codes, length, length-append, Option, Some, None, inl, inr, refl, sym, ◌∙◌, ap, subst, arith, Bor}
-use Rattle.std.specs.Prelude.{Contains, IfNone, is_some, option_map}
+use Rattle.std.specs.Prelude.{Contains, Decides, IfNone, is_some, option_map, bytes_eq, if◌then◌else◌}
+use Rattle.std.proofs.lemmas.Slice.Eq.{bytes_eq-Decides}
 use Rattle.std.proofs.lemmas.List.Concat.{flat_map-append}
 use Rattle.std.proofs.lemmas.List.Elements.{Contains-append_left, Contains-append_right, Contains-append_cases, Contains-push, Contains-push_cases}
 use Rattle.command_line.specs.declared.part.Setting.{Setting}
-use Rattle.command_line.specs.declared.part.Setting.TheVariants.{Syntax, Replacements, Most}
+use Rattle.command_line.specs.declared.part.Setting.TheVariants.{Syntax, Replacements, Most, Make, Watch}
 use Rattle.command_line.specs.declared.part.Part.{Part as PartRead}
 use Rattle.command_line.specs.declared.given.Given.{Given}
 use Rattle.command_line.specs.declared.given.Operands.{Operands}
 use Rattle.command_line.specs.Parts.{Part, flag, setting, operand, name_in, names_in, StandOnce, operand_in, operands_in}
-use Rattle.command_line.specs.Given.{setting_name, part_of, value_of, words_of, IsFlagIn, IsValueIn, AreGiven, AreFew}
-use Rattle.command_line.proofs.OptionNames.{contains_first, contains_behind, first_or_behind, no_member}
+use Rattle.command_line.specs.Asked.{IsValueIn}
+use Rattle.command_line.specs.Given.{setting_name, part_of, value_of, words_of, IsFlagIn, AreGiven, AreFew}
+use Rattle.command_line.proofs.OptionNames.{contains_first, contains_behind, first_or_behind, no_member, no_check}
 use Rattle.command_line.proofs.OneTask.{flag_named, setting_named}
 
 -- ---- names
@@ -85,18 +87,8 @@ pub check_missing : (parts : List Part) (b : Bool) → b ≡ false → IsFlagIn 
 check_missing parts true is flag_is = cc (is)
 check_missing parts false is flag_is = flag_is
 
-setting_no_check : (named : Setting) → Contains (codes "check" ∷ []) (setting_name named) → ⊥
-setting_no_check Syntax is = apart_names (codes "check") (codes "syntax") (λ e. cc (e)) is
-setting_no_check Replacements is = apart_names (codes "check") (codes "replacements") (λ e. cc (e)) is
-setting_no_check Most is = apart_names (codes "check") (codes "most") (λ e. cc (e)) is
-
-check_no_setting : (named : Setting) → Contains (setting_name named ∷ []) (codes "check") → ⊥
-check_no_setting Syntax is = apart_names (codes "syntax") (codes "check") (λ e. cc (e)) is
-check_no_setting Replacements is = apart_names (codes "replacements") (codes "check") (λ e. cc (e)) is
-check_no_setting Most is = apart_names (codes "most") (codes "check") (λ e. cc (e)) is
-
 check_value : (parts : List Part) (given : Given) (named : Setting) → AreGiven parts given → IsValueIn (parts ++ flag (codes "check") ∷ []) (setting_name named) (value_of given named)
-check_value parts given named are = value_more parts (flag (codes "check")) (setting_name named) (value_of given named) (are.values named) (setting_no_check named)
+check_value parts given named are = value_more parts (flag (codes "check")) (setting_name named) (value_of given named) (are.values named) (apart_names (codes "check") (setting_name named) (no_check named))
 
 pub check_given : (parts : List Part) (given : Given) → given.check ≡ false → AreGiven parts given → AreGiven (parts ++ flag (codes "check") ∷ []) (record given { check = true })
 check_given parts given missing are = record {
@@ -110,14 +102,24 @@ check_given parts given missing are = record {
     values Syntax = check_value parts given Syntax are
     values Replacements = check_value parts given Replacements are
     values Most = check_value parts given Most are
+    values Make = check_value parts given Make are
+    values Watch = check_value parts given Watch are
 
 -- ---- with a value
 
+-- a new value where this option is the one that gets it
+abbrev pub put : {A : Type 0} → Setting → Setting → A → A → A
+put named other new old = if bytes_eq (setting_name named) (setting_name other) then new else old
+
 -- what is given, with the value of an option
 abbrev pub with_word : Given → Setting → Bor (List ℕ) → Given
-with_word given Syntax value = record given { syntax = Some value }
-with_word given Replacements value = record given { replacements = Some value }
-with_word given Most value = record given { most = Some value }
+with_word given named value = record given {
+  syntax = put named Syntax (Some value) given.syntax;
+  replacements = put named Replacements (Some value) given.replacements;
+  most = put named Most (Some value) given.most;
+  make = put named Make (Some value) given.make;
+  watch = put named Watch (Some value) given.watch
+}
 
 pub value_stands : (parts : List Part) (name : List ℕ) (v : Option (List ℕ)) (word : List ℕ) → v ≡ Some word → IsValueIn parts name v → Contains (names_in parts) name
 value_stands parts name (Some w) word is value_is = setting_named parts name w value_is
@@ -127,38 +129,38 @@ pub value_missing : (parts : List Part) (name : List ℕ) (v : Option (List ℕ)
 value_missing parts name (Some w) is value_is = cc (is)
 value_missing parts name None is value_is = value_is
 
-other_value : (parts : List Part) (given : Given) (named other : Setting) (word : List ℕ) → (setting_name named ≡ setting_name other → ⊥) → AreGiven parts given → IsValueIn (parts ++ setting (setting_name named) word ∷ []) (setting_name other) (value_of given other)
-other_value parts given named other word apart are = value_more parts (setting (setting_name named) word) (setting_name other) (value_of given other) (are.values other) (apart_names (setting_name named) (setting_name other) apart)
+read_if : (b : Bool) (new : Bor (List ℕ)) (old : Option (Bor (List ℕ))) → option_map (λ (w : Bor (List ℕ)). w.now) (if b then Some new else old) ≡ (if b then Some new.now else option_map (λ (w : Bor (List ℕ)). w.now) old)
+read_if true new old = refl
+read_if false new old = refl
+
+-- the option has the new value, and each other one that which it had
+value_put : (given : Given) (named other : Setting) (value : Bor (List ℕ)) → value_of (with_word given named value) other ≡ put named other (Some value.now) (value_of given other)
+value_put given named Syntax value = read_if (bytes_eq (setting_name named) (codes "syntax")) value given.syntax
+value_put given named Replacements value = read_if (bytes_eq (setting_name named) (codes "replacements")) value given.replacements
+value_put given named Most value = read_if (bytes_eq (setting_name named) (codes "most")) value given.most
+value_put given named Make value = read_if (bytes_eq (setting_name named) (codes "make")) value given.make
+value_put given named Watch value = read_if (bytes_eq (setting_name named) (codes "watch")) value given.watch
 
 values_given : (parts : List Part) (given : Given) (named other : Setting) (value : Bor (List ℕ)) → AreGiven parts given → IsValueIn (parts ++ setting (setting_name named) value.now ∷ []) (setting_name other) (value_of (with_word given named value) other)
-values_given parts given Syntax Syntax value are = Contains-push parts (setting (codes "syntax") value.now)
-values_given parts given Syntax Replacements value are = other_value parts given Syntax Replacements value.now (λ e. cc (e)) are
-values_given parts given Syntax Most value are = other_value parts given Syntax Most value.now (λ e. cc (e)) are
-values_given parts given Replacements Syntax value are = other_value parts given Replacements Syntax value.now (λ e. cc (e)) are
-values_given parts given Replacements Replacements value are = Contains-push parts (setting (codes "replacements") value.now)
-values_given parts given Replacements Most value are = other_value parts given Replacements Most value.now (λ e. cc (e)) are
-values_given parts given Most Syntax value are = other_value parts given Most Syntax value.now (λ e. cc (e)) are
-values_given parts given Most Replacements value are = other_value parts given Most Replacements value.now (λ e. cc (e)) are
-values_given parts given Most Most value are = Contains-push parts (setting (codes "most") value.now)
+values_given parts given named other value are =
+    subst (λ (v : Option (List ℕ)). IsValueIn (parts ++ p ∷ []) (setting_name other) v) (sym (value_put given named other value))
+    (by_name (bytes_eq (setting_name named) (setting_name other)) (bytes_eq-Decides (setting_name named) (setting_name other)))
+  where
+    p : Part
+    p = setting (setting_name named) value.now
 
-same_check : (given : Given) (named : Setting) (value : Bor (List ℕ)) → (with_word given named value).check ≡ given.check
-same_check given Syntax value = refl
-same_check given Replacements value = refl
-same_check given Most value = refl
-
-same_operands : (given : Given) (named : Setting) (value : Bor (List ℕ)) → (with_word given named value).operands ≡ given.operands
-same_operands given Syntax value = refl
-same_operands given Replacements value = refl
-same_operands given Most value = refl
+    by_name : (b : Bool) → Decides b (setting_name named ≡ setting_name other) → IsValueIn (parts ++ p ∷ []) (setting_name other) (if b then Some value.now else value_of given other)
+    by_name true same = subst (λ (name : List ℕ). Contains (parts ++ p ∷ []) (setting name value.now)) (same.0 refl) (Contains-push parts p)
+    by_name false same = value_more parts p (setting_name other) (value_of given other) (are.values other) (apart_names (setting_name named) (setting_name other) (λ e. let bad = same.1 e in cc (bad)))
 
 pub value_given : (parts : List Part) (given : Given) (named : Setting) (value : Bor (List ℕ)) → value_of given named ≡ None → AreGiven parts given → AreGiven (parts ++ setting (setting_name named) value.now ∷ []) (with_word given named value)
 value_given parts given named value missing are =
     let p = setting (setting_name named) value.now in
     record {
       once = once_more parts p (setting_name named) refl are.once (value_missing parts (setting_name named) (value_of given named) missing (are.values named));
-      check = subst (λ (b : Bool). IsFlagIn (parts ++ p ∷ []) (codes "check") b) (sym (same_check given named value)) (flag_more parts p (codes "check") given.check are.check (check_no_setting named));
+      check = flag_more parts p (codes "check") given.check are.check (apart_names (setting_name named) (codes "check") (λ is. no_check named (sym is)));
       values = λ other. values_given parts given named other value are;
-      operands = operands_stay parts p refl ∙ are.operands ∙ ap words_of (sym (same_operands given named value));
+      operands = operands_stay parts p refl ∙ are.operands;
     }
 
 -- ---- with operands
@@ -178,6 +180,8 @@ operand_given parts given word operands more are = record {
     values Syntax = value_stays Syntax
     values Replacements = value_stays Replacements
     values Most = value_stays Most
+    values Make = value_stays Make
+    values Watch = value_stays Watch
 
 -- ---- where one more is too much
 

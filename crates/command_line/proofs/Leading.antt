@@ -3,7 +3,7 @@ use Rattle.std.proofs.Common.{◌≡◌, ℕ, suc, ◌<◌, ◌≤◌, List, [],
 use Rattle.std.proofs.lemmas.List.{append-nil, map-append, take-append-drop}
 use Rattle.command_line.specs.declared.given.Given.{Given}
 use Rattle.command_line.specs.declared.task.Mode.{Mode}
-use Rattle.command_line.specs.declared.task.Mode.TheVariants.{Answer, Check}
+use Rattle.command_line.specs.declared.task.Mode.TheVariants.{Answer, Check, Make}
 use Rattle.command_line.specs.declared.task.Task.{Task}
 use Rattle.command_line.specs.Parts.{Part, operand, operands_in, BeginWith, AreParts}
 use Rattle.command_line.specs.Asked.{AreOperandsOf, IsTask, Asks}
@@ -115,13 +115,15 @@ few_operands Answer operands file (Some terms) is = subst (λ ws. length ws ≤ 
 few_operands Check operands file (Some terms) is = absurd is
 few_operands Answer operands file None is = subst (λ ws. length ws ≤ 2) (sym is) (omega arith)
 few_operands Check operands file None is = subst (λ ws. length ws ≤ 2) (sym is) (omega arith)
+few_operands (Make k) operands file (Some terms) is = absurd is
+few_operands (Make k) operands file None is = subst (λ ws. length ws ≤ 2) (sym is) (omega arith)
 
 -- the parts of a command line are few
-pub asked_few : (words : List (List ℕ)) (task : Task) (file : List ℕ) (terms : Option (List ℕ)) (asks : Asks words task file terms) → AreFew asks.parts
-asked_few words task file terms asks = record { once = asks.asked.once; few = few_operands task.mode (operands_in asks.parts) file terms asks.operands }
+pub asked_few : (words : List (List ℕ)) (task : Task) (file : List ℕ) (terms watch : Option (List ℕ)) (asks : Asks words task file terms watch) → AreFew asks.parts
+asked_few words task file terms watch asks = record { once = asks.asked.once; few = few_operands task.mode (operands_in asks.parts) file terms asks.operands }
 
 -- where parts of the words are none that ask for something, the words ask for nothing
-pub asks_nothing : (words : List (List ℕ)) (ps : List Part) → AreParts ps words → ((task : Task) (file : List ℕ) (terms : Option (List ℕ)) → IsTask ps task → AreOperandsOf task.mode (operands_in ps) file terms → ⊥) → (task : Task) (file : List ℕ) (terms : Option (List ℕ)) → Asks words task file terms → ⊥
-asks_nothing words ps are none task file terms asks =
+pub asks_nothing : (words : List (List ℕ)) (ps : List Part) → AreParts ps words → ((task : Task) (file : List ℕ) (terms : Option (List ℕ)) → IsTask ps task → AreOperandsOf task.mode (operands_in ps) file terms → ⊥) → (task : Task) (file : List ℕ) (terms watch : Option (List ℕ)) → Asks words task file terms watch → ⊥
+asks_nothing words ps are none task file terms watch asks =
     let same = one_parts asks.parts ps words asks.written are in
     none task file terms (subst (λ os. IsTask os task) same asks.asked) (subst (λ os. AreOperandsOf task.mode (operands_in os) file terms) same asks.operands)

@@ -1,14 +1,14 @@
 -- Parts ask for one task, and words for one thing.
-use Rattle.std.proofs.Common.{◌≡◌, ◌⊎◌, ℕ, List, [], ◌∷◌, codes, Option, Some, None, inl, inr, refl, sym, ◌∙◌, subst}
+use Rattle.std.proofs.Common.{◌≡◌, ◌⊎◌, ℕ, List, [], ◌∷◌, codes, Option, Some, None, inl, inr, refl, sym, ◌∙◌, ap, subst}
 use Rattle.std.specs.Prelude.{Contains, ◌^◌}
 use Rattle.term_lex.specs.declared.syntax.Syntax.{Syntax}
 use Rattle.term_lex.specs.declared.syntax.Syntax.TheVariants.{Standmath, LispM}
 use Rattle.command_line.specs.declared.task.Mode.{Mode}
-use Rattle.command_line.specs.declared.task.Mode.TheVariants.{Answer, Check}
+use Rattle.command_line.specs.declared.task.Mode.TheVariants.{Answer, Check, Make}
 use Rattle.command_line.specs.declared.task.Task.{Task}
 use Rattle.command_line.specs.Parts.{Part, flag, setting, operand, names_in, StandOnce, operands_in}
-use Rattle.command_line.specs.Asked.{IsNumber, IsSyntax, IsSetTo, IsMode, AreOperandsOf, IsTask, Asks}
-use Rattle.command_line.proofs.OptionNames.{contains_first, contains_behind, first_or_behind, no_member}
+use Rattle.command_line.specs.Asked.{IsNumber, IsSyntax, IsSetTo, IsMode, AreOperandsOf, IsValueIn, IsTask, Asks}
+use Rattle.command_line.proofs.OptionNames.{contains_first, contains_behind, first_or_behind, no_member, check_names, make_names}
 use Rattle.command_line.proofs.OneReading.{one_parts}
 
 -- ---- the values of options
@@ -69,35 +69,61 @@ one_syntax word LispM LispM p q = refl
 pub one_number : (least most : ℕ) (word : List ℕ) (u v : ℕ) → IsNumber least most word u → IsNumber least most word v → u ≡ v
 one_number least most word u v p q = p.value ∙ sym q.value
 
-pub one_mode : (ps : List Part) (m n : Mode) → IsMode ps m → IsMode ps n → m ≡ n
-one_mode ps Answer Answer p q = refl
-one_mode ps Answer Check p q = absurd (p (codes "check") (contains_first (codes "check") []) (flag_named ps (codes "check") q))
-one_mode ps Check Answer p q = absurd (q (codes "check") (contains_first (codes "check") []) (flag_named ps (codes "check") p))
-one_mode ps Check Check p q = refl
+-- the option that names the mode stands there, and no other one does
+checked_alone : (ps : List Part) (count : ℕ) → IsMode ps Check → IsMode ps (Make count) → ⊥
+checked_alone ps count check make = check.1 (codes "make") make_names (λ is. cc (is)) (setting_named ps (codes "make") make.0.0 make.0.1)
+
+pub one_mode : (ps : List Part) (m n : Mode) → StandOnce (names_in ps) → IsMode ps m → IsMode ps n → m ≡ n
+one_mode ps Answer Answer once p q = refl
+one_mode ps Answer Check once p q = absurd (p (codes "check") check_names (flag_named ps (codes "check") q.0))
+one_mode ps Answer (Make l) once p q = absurd (p (codes "make") make_names (setting_named ps (codes "make") q.0.0 q.0.1))
+one_mode ps Check Answer once p q = absurd (q (codes "check") check_names (flag_named ps (codes "check") p.0))
+one_mode ps Check Check once p q = refl
+one_mode ps Check (Make l) once p q = absurd (checked_alone ps l p q)
+one_mode ps (Make k) Answer once p q = absurd (q (codes "make") make_names (setting_named ps (codes "make") p.0.0 p.0.1))
+one_mode ps (Make k) Check once p q = absurd (checked_alone ps k q p)
+one_mode ps (Make k) (Make l) once p q =
+    let word = one_value ps (codes "make") p.0.0 q.0.0 once p.0.1 q.0.1 in
+    ap (λ count. Make count) (one_number 0 1000000 q.0.0 k l (subst (λ w. IsNumber 0 1000000 w k) word p.0.2) q.0.2)
+
+-- without terms, a mode asks for its file alone
+one_file : (operands : List (List ℕ)) (file other : List ℕ) → operands ≡ file ∷ [] → operands ≡ other ∷ [] → file ≡ other
+one_file operands file other p q = let e : file ∷ [] ≡ other ∷ [] = sym p ∙ q in cc (e)
 
 pub one_operands : (mode : Mode) (operands : List (List ℕ)) (file other : List ℕ) (terms more : Option (List ℕ)) → AreOperandsOf mode operands file terms → AreOperandsOf mode operands other more → (file ≡ other) × (terms ≡ more)
 one_operands Answer operands file other (Some t) (Some u) p q = let e : file ∷ t ∷ [] ≡ other ∷ u ∷ [] = sym p ∙ q in (cc (e), cc (e))
 one_operands Answer operands file other (Some t) None p q = let e : file ∷ t ∷ [] ≡ other ∷ [] = sym p ∙ q in cc (e)
 one_operands Answer operands file other None (Some u) p q = let e : file ∷ [] ≡ other ∷ u ∷ [] = sym p ∙ q in cc (e)
-one_operands Answer operands file other None None p q = let e : file ∷ [] ≡ other ∷ [] = sym p ∙ q in (cc (e), refl)
+one_operands Answer operands file other None None p q = (one_file operands file other p q, refl)
 one_operands Check operands file other (Some t) more p q = absurd p
 one_operands Check operands file other None (Some u) p q = absurd q
-one_operands Check operands file other None None p q = let e : file ∷ [] ≡ other ∷ [] = sym p ∙ q in (cc (e), refl)
+one_operands Check operands file other None None p q = (one_file operands file other p q, refl)
+one_operands (Make k) operands file other (Some t) more p q = absurd p
+one_operands (Make k) operands file other None (Some u) p q = absurd q
+one_operands (Make k) operands file other None None p q = (one_file operands file other p q, refl)
+
+-- an option has one value, or none
+pub one_value_in : (ps : List Part) (name : List ℕ) (v w : Option (List ℕ)) → StandOnce (names_in ps) → IsValueIn ps name v → IsValueIn ps name w → v ≡ w
+one_value_in ps name (Some v) (Some w) once p q = ap (λ word. Some word) (one_value ps name v w once p q)
+one_value_in ps name (Some v) None once p q = absurd (q (setting_named ps name v p))
+one_value_in ps name None (Some w) once p q = absurd (p (setting_named ps name w q))
+one_value_in ps name None None once p q = refl
 
 -- parts ask for one task
 pub one_task : (ps : List Part) (a b : Task) → IsTask ps a → IsTask ps b → a ≡ b
 one_task ps a b p q =
-    let mode : a.mode ≡ b.mode = one_mode ps a.mode b.mode p.mode q.mode in
+    let mode : a.mode ≡ b.mode = one_mode ps a.mode b.mode p.once p.mode q.mode in
     let syntax : a.syntax ≡ b.syntax = one_setting ps (codes "syntax") IsSyntax Standmath p.once one_syntax a.syntax b.syntax p.syntax q.syntax in
     let budget : a.budget ≡ b.budget = one_setting ps (codes "replacements") (IsNumber 0 (10 ^ 12)) 1000000 p.once (one_number 0 (10 ^ 12)) a.budget b.budget p.budget q.budget in
     let most : a.most ≡ b.most = one_setting ps (codes "most") (IsNumber 1 (2 ^ 32)) 1000000 p.once (one_number 1 (2 ^ 32)) a.most b.most p.most q.most in
     λ i. record { mode = mode i; syntax = syntax i; budget = budget i; most = most i }
 
 -- words ask for one thing
-pub one_asked : (words : List (List ℕ)) (a b : Task) (file name : List ℕ) (terms more : Option (List ℕ)) → Asks words a file terms → Asks words b name more → (a ≡ b) × (file ≡ name) × (terms ≡ more)
-one_asked words a b file name terms more p q =
+pub one_asked : (words : List (List ℕ)) (a b : Task) (file name : List ℕ) (terms more watch second : Option (List ℕ)) → Asks words a file terms watch → Asks words b name more second → (a ≡ b) × (file ≡ name) × (terms ≡ more) × (watch ≡ second)
+one_asked words a b file name terms more watch second p q =
     let parts = one_parts p.parts q.parts words p.written q.written in
     let task = one_task p.parts a b p.asked (subst (λ ps. IsTask ps b) (sym parts) q.asked) in
     let moved = subst (λ ps. AreOperandsOf b.mode (operands_in ps) name more) (sym parts) q.operands in
     let operands = one_operands a.mode (operands_in p.parts) file name terms more p.operands (subst (λ (t : Task). AreOperandsOf t.mode (operands_in p.parts) name more) (sym task) moved) in
-    (task, operands.0, operands.1)
+    let watched = one_value_in p.parts (codes "watch") watch second p.asked.once p.watched (subst (λ ps. IsValueIn ps (codes "watch") second) (sym parts) q.watched) in
+    (task, operands.0, operands.1, watched)

@@ -1,12 +1,14 @@
 -- The names of the options: without `=`, not empty, and apart.
-use Rattle.std.proofs.Common.{◌≡◌, ◌⊎◌, ℕ, zero, suc, Bool, false, List, [], ◌∷◌, ◌++◌, codes, Some, inl, inr, refl, sym, ◌∙◌, ap, subst, arith, ◌==◌, slice_get, get_or, ◌<◌, length}
-use Rattle.std.specs.Prelude.{Contains, ◌||◌}
+use Rattle.std.proofs.Common.{◌≡◌, ◌⊎◌, ℕ, zero, suc, Bool, true, false, List, [], ◌∷◌, ◌++◌, codes, Some, inl, inr, refl, sym, ◌∙◌, ap, subst, arith, ◌==◌, slice_get, get_or, ◌<◌, length}
+use Rattle.std.specs.Prelude.{Contains, ◌||◌, bytes_eq}
 use Rattle.std.proofs.lemmas.Bool.{eqb-false, or_parts}
+use Rattle.std.proofs.lemmas.Slice.Eq.{bytes_eq-Decides}
 use Rattle.std.proofs.lemmas.Option.{slice_get_within, get_or_from_slice_get}
 use Rattle.command_line.specs.Parts.{flag_names, setting_names}
+use Rattle.command_line.specs.Asked.{mode_names}
 use Rattle.command_line.specs.Given.{setting_name}
 use Rattle.command_line.specs.declared.part.Setting.{Setting}
-use Rattle.command_line.specs.declared.part.Setting.TheVariants.{Syntax, Replacements, Most}
+use Rattle.command_line.specs.declared.part.Setting.TheVariants.{Syntax, Replacements, Most, Make, Watch}
 
 -- ---- what lists contain
 
@@ -61,53 +63,83 @@ no_sign_in [] none k is = cc (is)
 no_sign_in (b ∷ name) none zero is = eqb-false b 61 ((or_parts (b == 61) (has_sign name) none).0) (let same : Some b ≡ Some 61 = is in cc (same))
 no_sign_in (b ∷ name) none (suc k) is = no_sign_in name ((or_parts (b == 61) (has_sign name) none).1) k is
 
+-- texts that a program tells apart
+told_apart : (a b : List ℕ) → bytes_eq a b ≡ false → a ≡ b → ⊥
+told_apart a b apart is = let bad : true ≡ false = sym ((bytes_eq-Decides a b).1 is) ∙ apart in cc (bad)
+
 pub flag_is : (name : List ℕ) → Contains flag_names name → codes "check" ≡ name
 flag_is name is = elim (first_or_behind (codes "check") name [] is) [ inl same ↦ same | inr none ↦ absurd (no_member name none) ]
 
-pub setting_is : (name : List ℕ) → Contains setting_names name → (codes "syntax" ≡ name) ⊎ ((codes "replacements" ≡ name) ⊎ (codes "most" ≡ name))
-setting_is name is = elim (first_or_behind (codes "syntax") name (codes "replacements" ∷ codes "most" ∷ []) is) [
-  | inl same ↦ inl same
-  | inr more ↦ (elim (first_or_behind (codes "replacements") name (codes "most" ∷ []) more) [
-    | inl same ↦ inr (inl same)
-    | inr last ↦ (elim (first_or_behind (codes "most") name [] last) [ inl same ↦ inr (inr same) | inr none ↦ absurd (no_member name none) ])
-  ])
-]
+-- each option that takes a value is named
+pub setting_known : (named : Setting) → Contains setting_names (setting_name named)
+setting_known Syntax = (0, omega arith, refl)
+setting_known Replacements = (1, omega arith, refl)
+setting_known Most = (2, omega arith, refl)
+setting_known Make = (3, omega arith, refl)
+setting_known Watch = (4, omega arith, refl)
+
+-- the name is that of an option that takes a value
+pub setting_is : (name : List ℕ) → Contains setting_names name → (named : Setting) × (setting_name named ≡ name)
+setting_is name (zero, below, is) = (Syntax, is)
+setting_is name (suc zero, below, is) = (Replacements, is)
+setting_is name (suc (suc zero), below, is) = (Most, is)
+setting_is name (suc (suc (suc zero)), below, is) = (Make, is)
+setting_is name (suc (suc (suc (suc zero))), below, is) = (Watch, is)
+setting_is name (suc (suc (suc (suc (suc k)))), below, is) = absurd (omega (arith, below))
+
+plain_setting : (named : Setting) → HasNoSign (setting_name named)
+plain_setting Syntax = no_sign_in (codes "syntax") refl
+plain_setting Replacements = no_sign_in (codes "replacements") refl
+plain_setting Most = no_sign_in (codes "most") refl
+plain_setting Make = no_sign_in (codes "make") refl
+plain_setting Watch = no_sign_in (codes "watch") refl
+
+named_setting : (named : Setting) → setting_name named ≡ [] → ⊥
+named_setting Syntax = told_apart (codes "syntax") [] refl
+named_setting Replacements = told_apart (codes "replacements") [] refl
+named_setting Most = told_apart (codes "most") [] refl
+named_setting Make = told_apart (codes "make") [] refl
+named_setting Watch = told_apart (codes "watch") [] refl
+
+-- no option that takes a value is `--check`
+pub no_check : (named : Setting) → codes "check" ≡ setting_name named → ⊥
+no_check Syntax = told_apart (codes "check") (codes "syntax") refl
+no_check Replacements = told_apart (codes "check") (codes "replacements") refl
+no_check Most = told_apart (codes "check") (codes "most") refl
+no_check Make = told_apart (codes "check") (codes "make") refl
+no_check Watch = told_apart (codes "check") (codes "watch") refl
 
 pub plain_flags : (name : List ℕ) → Contains flag_names name → HasNoSign name
 plain_flags name is = subst HasNoSign (flag_is name is) (no_sign_in (codes "check") refl)
 
 pub plain_settings : (name : List ℕ) → Contains setting_names name → HasNoSign name
-plain_settings name is = elim (setting_is name is) [
-  | inl same ↦ subst HasNoSign same (no_sign_in (codes "syntax") refl)
-  | inr (inl same) ↦ subst HasNoSign same (no_sign_in (codes "replacements") refl)
-  | inr (inr same) ↦ subst HasNoSign same (no_sign_in (codes "most") refl)
-]
+plain_settings name is = let found = setting_is name is in subst HasNoSign found.1 (plain_setting found.0)
 
 pub named_flags : ¬ Contains flag_names []
 named_flags is = let same = flag_is [] is in cc (same)
 
 pub named_settings : ¬ Contains setting_names []
-named_settings is = elim (setting_is [] is) [
-  | inl same ↦ cc (same)
-  | inr (inl same) ↦ cc (same)
-  | inr (inr same) ↦ cc (same)
-]
+named_settings is = let found = setting_is [] is in named_setting found.0 found.1
 
 pub apart : (name : List ℕ) → Contains flag_names name → ¬ Contains setting_names name
-apart name is is' = elim (setting_is name is') [
-  | inl same ↦ (let e : codes "syntax" ≡ codes "check" = same ∙ sym (flag_is name is) in cc (e))
-  | inr (inl same) ↦ (let e : codes "replacements" ≡ codes "check" = same ∙ sym (flag_is name is) in cc (e))
-  | inr (inr same) ↦ (let e : codes "most" ≡ codes "check" = same ∙ sym (flag_is name is) in cc (e))
-]
+apart name is is' = let found = setting_is name is' in no_check found.0 (flag_is name is ∙ sym found.1)
+
+-- ---- the options that name a mode
+
+-- they are two
+pub mode_named : (name : List ℕ) → Contains mode_names name → (codes "check" ≡ name) ⊎ (codes "make" ≡ name)
+mode_named name (zero, below, is) = inl is
+mode_named name (suc zero, below, is) = inr is
+mode_named name (suc (suc k), below, is) = absurd (omega (arith, below))
+
+pub check_names : Contains mode_names (codes "check")
+check_names = (0, omega arith, refl)
+
+pub make_names : Contains mode_names (codes "make")
+make_names = (1, omega arith, refl)
 
 -- ---- what is read of a name
 
 -- where no index has `=`, the name has none
 pub no_sign_at : (name : List ℕ) → ((i : ℕ) → i < length name → get_or name i 0 ≡ 61 → ⊥) → HasNoSign name
 no_sign_at name none k is = none k (slice_get_within name k 61 is) (get_or_from_slice_get name k 61 0 is)
-
--- each option that takes a value is named
-pub setting_known : (named : Setting) → Contains setting_names (setting_name named)
-setting_known Syntax = contains_first (codes "syntax") (codes "replacements" ∷ codes "most" ∷ [])
-setting_known Replacements = contains_behind (codes "syntax") (codes "replacements") (codes "replacements" ∷ codes "most" ∷ []) (contains_first (codes "replacements") (codes "most" ∷ []))
-setting_known Most = contains_behind (codes "syntax") (codes "most") (codes "replacements" ∷ codes "most" ∷ []) (contains_behind (codes "replacements") (codes "most") (codes "most" ∷ []) (contains_first (codes "most") []))

@@ -1,19 +1,22 @@
 -- What the functions that read words say of parts.
 use Rattle.std.specs.Prelude.{◌≡◌, ℕ, ◌≤◌, List, [], ◌∷◌, ◌++◌, length, codes, Contains, Option, Some, None, Bool, true, false, option_map}
 use Rattle.command_line.specs.declared.part.Setting.{Setting}
-use Rattle.command_line.specs.declared.part.Setting.TheVariants.{Syntax, Replacements, Most}
+use Rattle.command_line.specs.declared.part.Setting.TheVariants.{Syntax, Replacements, Most, Make, Watch}
 use Rattle.command_line.specs.declared.part.Part.{Part as PartRead}
 use Rattle.command_line.specs.declared.part.Part.TheVariants.{Check, Set, Operand}
 use Rattle.command_line.specs.declared.given.Given.{Given}
 use Rattle.command_line.specs.declared.given.Operands.{Operands}
 use Rattle.command_line.specs.declared.given.Operands.TheVariants.{Nothing, File, FileAndTerms}
 use Rattle.command_line.specs.Parts.{Part, flag, setting, operand, names_in, StandOnce, operands_in, AreParts}
+use Rattle.command_line.specs.Asked.{IsValueIn}
 
 -- the name of an option with a value
 abbrev pub setting_name : Setting → List ℕ
 setting_name Syntax = codes "syntax"
 setting_name Replacements = codes "replacements"
 setting_name Most = codes "most"
+setting_name Make = codes "make"
+setting_name Watch = codes "watch"
 
 -- the part that is read
 abbrev pub part_of : PartRead → Part
@@ -26,6 +29,8 @@ abbrev pub value_of : Given → Setting → Option (List ℕ)
 value_of given Syntax = option_map (λ word. word.now) given.syntax
 value_of given Replacements = option_map (λ word. word.now) given.replacements
 value_of given Most = option_map (λ word. word.now) given.most
+value_of given Make = option_map (λ word. word.now) given.make
+value_of given Watch = option_map (λ word. word.now) given.watch
 
 -- the operands that are given
 abbrev pub words_of : Operands → List (List ℕ)
@@ -37,11 +42,6 @@ words_of (FileAndTerms file terms) = file.now ∷ terms.now ∷ []
 abbrev pub IsFlagIn : List Part → List ℕ → Bool → Type 0
 IsFlagIn parts name true = Contains parts (flag name)
 IsFlagIn parts name false = ¬ Contains (names_in parts) name
-
--- the value that the parts give for the option, or none
-abbrev pub IsValueIn : List Part → List ℕ → Option (List ℕ) → Type 0
-IsValueIn parts name (Some value) = Contains parts (setting name value)
-IsValueIn parts name None = ¬ Contains (names_in parts) name
 
 -- the value of an option that is given so, or the default where it is not given
 abbrev pub IsValueOr : {V : Type 0} → Option (List ℕ) → (List ℕ → V → Type 0) → V → V → Type 0

@@ -13,7 +13,8 @@ flag_names = codes "check" ∷ []
 
 -- those that take one
 abbrev pub setting_names : List (List ℕ)
-setting_names = codes "syntax" ∷ codes "replacements" ∷ codes "most" ∷ []
+setting_names =
+    codes "syntax" ∷ codes "replacements" ∷ codes "most" ∷ codes "make" ∷ codes "watch" ∷ []
 
 -- the word begins with `-`
 abbrev pub BeginsWithDash : List ℕ → Type 0

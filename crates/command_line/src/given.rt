@@ -36,6 +36,8 @@ pub struct Given<'a> {
     pub syntax: Option<&'a str>,
     pub replacements: Option<&'a str>,
     pub most: Option<&'a str>,
+    pub make: Option<&'a str>,
+    pub watch: Option<&'a str>,
     pub operands: Operands<'a>,
 }
 
@@ -49,6 +51,8 @@ impl<'a> Given<'a> {
             syntax: None,
             replacements: None,
             most: None,
+            make: None,
+            watch: None,
             operands: Operands::Nothing,
         }
     }
@@ -61,6 +65,8 @@ impl<'a> Given<'a> {
             Setting::Syntax => self.syntax,
             Setting::Replacements => self.replacements,
             Setting::Most => self.most,
+            Setting::Make => self.make,
+            Setting::Watch => self.watch,
         }
     }
 
@@ -94,6 +100,8 @@ impl<'a> Given<'a> {
             Setting::Syntax => given.syntax = Some(value),
             Setting::Replacements => given.replacements = Some(value),
             Setting::Most => given.most = Some(value),
+            Setting::Make => given.make = Some(value),
+            Setting::Watch => given.watch = Some(value),
         }
         Some(given)
     }

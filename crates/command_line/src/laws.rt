@@ -6,6 +6,7 @@ ghost use Rattle.command_line.specs.Asked.{Asks};
 /// Words ask for one thing at most.
 pub fn words_ask_once()
     ensures { (words : List (List ℕ)) (one other : AskedTask) (file name : List ℕ)
-        (terms more : Option (List ℕ)) → Asks words one file terms → Asks words other name more
-        → (one ≡ other) × (file ≡ name) × (terms ≡ more) }
+        (terms more watch second : Option (List ℕ)) → Asks words one file terms watch
+        → Asks words other name more second
+        → (one ≡ other) × (file ≡ name) × (terms ≡ more) × (watch ≡ second) }
 {}

@@ -12,6 +12,10 @@ pub enum Setting {
     Replacements,
     /// The most cells of an answer: `--most`.
     Most,
+    /// How many numbers a term has that is made: `--make`.
+    Make,
+    /// The watches that are turned on: `--watch`.
+    Watch,
 }
 
 /// A part of a command line.
@@ -48,6 +52,8 @@ fn setting_named(name: &str) -> Option<Setting>
         "syntax" => Some(Setting::Syntax),
         "replacements" => Some(Setting::Replacements),
         "most" => Some(Setting::Most),
+        "make" => Some(Setting::Make),
+        "watch" => Some(Setting::Watch),
         _ => None,
     }
 }

@@ -8,6 +8,8 @@ pub enum Mode {
     Answer,
     /// The file of definitions is checked, and no terms are read: `--check`.
     Check,
+    /// A term with so many numbers is made and answered, 0 to 1,000,000, and no terms are read: `--make=N`.
+    Make(u64),
 }
 
 /// What is done, and within which limits.
@@ -22,10 +24,12 @@ pub struct Task {
     pub most: u64,
 }
 
-/// A task, the name of the file of definitions and, perhaps, that of a file with terms.
+/// A task, the name of the file of definitions and, perhaps, that of a file with terms and that of watches.
 #[derive(Clone, Copy)]
 pub struct Asked<'a> {
     pub task: Task,
     pub file: &'a str,
     pub terms: Option<&'a str>,
+    /// The watches that are turned on, any word: `--watch=NAME`.
+    pub watch: Option<&'a str>,
 }

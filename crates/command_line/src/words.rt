@@ -1,11 +1,12 @@
 // The words of the program.
-ghost use Rattle.std.specs.Prelude.{◌≤◌, ℕ, List, ◌++◌, length, ◌∷◌, map, string_bytes, Option, option_map, IfSome, IfNone};
+ghost use Rattle.std.specs.Prelude.{◌≤◌, ℕ, List, ◌++◌, codes, length, ◌∷◌, map, string_bytes, Option, option_map, IfSome, IfNone};
 ghost use Rattle.term_lex.specs.declared.syntax.Syntax.{Syntax as NamedSyntax};
 ghost use Rattle.term_lex.specs.declared.syntax.Syntax.TheVariants.{Standmath};
+ghost use Rattle.command_line.specs.declared.task.Mode.{Mode as AskedMode};
 ghost use Rattle.command_line.specs.declared.task.Task.{Task as AskedTask};
 ghost use Rattle.command_line.specs.Parts.{Part as WrittenPart, AreParts, operands_in};
-ghost use Rattle.command_line.specs.Asked.{IsSyntax, IsNumber, IsTask, AreOperandsOf, Asks, IsCommandLine};
-ghost use Rattle.command_line.specs.Given.{IsValueOr, AreGiven, AreFew, LeadTo};
+ghost use Rattle.command_line.specs.Asked.{IsMode, IsSyntax, IsNumber, IsTask, AreOperandsOf, IsValueIn, Asks, IsCommandLine};
+ghost use Rattle.command_line.specs.Given.{words_of, IsValueOr, AreGiven, AreFew, LeadTo};
 
 use crate::given::{Given, Operands};
 use crate::part::first_part;
@@ -20,6 +21,9 @@ const MOST_BUDGET: u64 = 1_000_000_000_000;
 
 /// The most cells of a printed answer that words may allow: 2^32.
 const MOST_CELLS: u64 = 4_294_967_296;
+
+/// The most numbers that words may give a term that is made.
+const MOST_MADE: u64 = 1_000_000;
 
 /// What is given with the first part of the words, and the words behind it, if that part can stand there.
 /// Behind `--` each word is a part, and no words are left.
@@ -117,6 +121,23 @@ fn number_given(word: Option<&str>, least: u64, most: u64) -> Option<u64>
     }
 }
 
+/// What is done by the words that are given, if they name one mode at most.
+fn mode_given(given: Given<'_>) -> Option<Mode>
+    ensures mode { IfSome result (λ mode. (parts : List WrittenPart) → AreGiven parts given.entry
+        → IsMode parts mode) }
+    ensures none { IfNone result ((parts : List WrittenPart) (mode : AskedMode) → AreGiven parts given.entry
+        → ¬ IsMode parts mode) }
+{
+    let Some(word) = given.make else {
+        return Some(if given.check { Mode::Check } else { Mode::Answer });
+    };
+    if given.check {
+        return None;
+    }
+    let count = number_in(word, 0, MOST_MADE)?;
+    Some(Mode::Make(count))
+}
+
 /// The task for which the parts that give this ask, if they ask for one.
 fn task_given(given: Given<'_>) -> Option<Task>
     ensures task { IfSome result (λ task. (parts : List WrittenPart) → AreGiven parts given.entry
@@ -124,11 +145,7 @@ fn task_given(given: Given<'_>) -> Option<Task>
     ensures none { IfNone result ((parts : List WrittenPart) (task : AskedTask) → AreGiven parts given.entry
         → ¬ IsTask parts task) }
 {
-    let mode = if given.check {
-        Mode::Check
-    } else {
-        Mode::Answer
-    };
+    let mode = mode_given(given)?;
     let syntax = syntax_given(given.syntax)?;
     let budget = number_given(given.replacements, 0, MOST_BUDGET)?;
     let most = number_given(given.most, 1, MOST_CELLS)?;
@@ -140,38 +157,47 @@ fn task_given(given: Given<'_>) -> Option<Task>
     })
 }
 
+/// The file of definitions and, perhaps, one with terms, if the operands are those of the mode.
+fn files_given<'a>(operands: Operands<'a>, mode: Mode) -> Option<(&'a str, Option<&'a str>)>
+    ensures files { IfSome result (λ files. AreOperandsOf mode (words_of operands.entry)
+        files.0.now (option_map (λ word. word.now) files.1)) }
+    ensures none { IfNone result ((file : List ℕ) (terms : Option (List ℕ))
+        → ¬ AreOperandsOf mode (words_of operands.entry) file terms) }
+{
+    match operands {
+        Operands::Nothing => None,
+        Operands::File(file) => Some((file, None)),
+        Operands::FileAndTerms(file, terms) => match mode {
+            Mode::Answer => Some((file, Some(terms))),
+            Mode::Check | Mode::Make(_) => None,
+        },
+    }
+}
+
 /// What the parts that give this ask for, if they ask for something.
 fn asked_by(given: Given<'_>) -> Option<Asked<'_>>
     ensures asked { IfSome result (λ asked. (parts : List WrittenPart) → AreGiven parts given.entry
         → IsTask parts asked.task × AreOperandsOf asked.task.mode (operands_in parts)
-        asked.file.now (option_map (λ word. word.now) asked.terms)) }
+        asked.file.now (option_map (λ word. word.now) asked.terms)
+        × IsValueIn parts (codes "watch") (option_map (λ word. word.now) asked.watch)) }
     ensures none { IfNone result ((parts : List WrittenPart) (task : AskedTask) (file : List ℕ)
         (terms : Option (List ℕ)) → AreGiven parts given.entry → IsTask parts task
         → ¬ AreOperandsOf task.mode (operands_in parts) file terms) }
 {
     let task = task_given(given)?;
-    match given.operands {
-        Operands::File(file) => Some(Asked {
-            task,
-            file,
-            terms: None,
-        }),
-        Operands::FileAndTerms(file, terms) => match task.mode {
-            Mode::Answer => Some(Asked {
-                task,
-                file,
-                terms: Some(terms),
-            }),
-            Mode::Check => None,
-        },
-        Operands::Nothing => None,
-    }
+    let (file, terms) = files_given(given.operands, task.mode)?;
+    Some(Asked {
+        task,
+        file,
+        terms,
+        watch: given.watch,
+    })
 }
 
 /// What the words ask for, if they are a command line.
 pub fn read_words(words: &[String]) -> Option<Asked<'_>>
     ensures asked { IfSome result (λ asked. Asks (map string_bytes words.now) asked.task asked.file.now
-        (option_map (λ word. word.now) asked.terms)) }
+        (option_map (λ word. word.now) asked.terms) (option_map (λ word. word.now) asked.watch)) }
     ensures none { IfNone result (¬ IsCommandLine (map string_bytes words.now)) }
 {
     let given = given_by(words)?;
