@@ -118,7 +118,7 @@ with_word given named value = record given {
   replacements = put named Replacements (Some value) given.replacements;
   most = put named Most (Some value) given.most;
   make = put named Make (Some value) given.make;
-  watch = put named Watch (Some value) given.watch
+  watch = put named Watch (Some value) given.watch;
 }
 
 pub value_stands : (parts : List Part) (name : List ℕ) (v : Option (List ℕ)) (word : List ℕ) → v ≡ Some word → IsValueIn parts name v → Contains (names_in parts) name

@@ -129,7 +129,11 @@ fn mode_given(given: Given<'_>) -> Option<Mode>
         → ¬ IsMode parts mode) }
 {
     let Some(word) = given.make else {
-        return Some(if given.check { Mode::Check } else { Mode::Answer });
+        return Some(if given.check {
+            Mode::Check
+        } else {
+            Mode::Answer
+        });
     };
     if given.check {
         return None;
