@@ -1,13 +1,8 @@
-// A library with one function.
+// The term that is made for a number: the sum of a reversed list of numbers, as long as is asked for.
 #![tactic(auto)]
 
-ghost use Rattle.std.specs.Prelude.{◌≡◌};
-ghost use Rattle.made_terms.specs.Echo.{echo_of};
+mod laws;
+mod making;
 
-// The `ensures` clause is the contract: what `echo` returns is `echo_of` of its argument, a definition
-// in `specs/Echo.antt`, which a caller's clause can cite too.
-pub fn echo(x: usize) -> usize
-    ensures { result ≡ echo_of x }
-{
-    x
-}
+pub use laws::made_texts_fit;
+pub use making::made_text;
