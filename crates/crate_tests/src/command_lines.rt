@@ -32,6 +32,11 @@ const LISTS: Task = Task {
     ..PLAIN
 };
 
+const MAKE: Task = Task {
+    mode: Mode::Make(3),
+    ..PLAIN
+};
+
 #[test]
 fn command_lines(rt: HostRuntime) -> Result<(), Fail> {
     for (text, wanted) in [
@@ -54,9 +59,13 @@ fn command_lines(rt: HostRuntime) -> Result<(), Fail> {
                 None,
             )),
         ),
+        ("E1 --make 3", Some((MAKE, "E1", None))),
         ("E1 T U", None),
         ("--check E1 T", None),
         ("--check= E1", None),
+        ("--make=3 E1 T", None),
+        ("--make=3 --check E1", None),
+        ("--make 1000001 E1", None),
         ("--syntax=LISP.M E1", None),
         ("--most 0 E1", None),
         ("--most=4294967297 E1", None),
@@ -66,6 +75,22 @@ fn command_lines(rt: HostRuntime) -> Result<(), Fail> {
         let words = words_in(rt.alloc(), text)?;
         let asked = read_words(&words).map(|asked| (asked.task, asked.file, asked.terms));
         assert!(rt; asked == wanted, "{text}");
+    }
+    Ok(())
+}
+
+#[test]
+fn watch_names(rt: HostRuntime) -> Result<(), Fail> {
+    for (text, wanted) in [
+        ("E1", Some(None)),
+        ("--watch trace E1 --make=3", Some(Some("trace"))),
+        ("E1 --watch=-all T", Some(Some("-all"))),
+        ("--watch -all E1", None),
+        ("--watch all --watch all E1", None),
+    ] {
+        let words = words_in(rt.alloc(), text)?;
+        let watch = read_words(&words).map(|asked| asked.watch);
+        assert!(rt; watch == wanted, "{text}");
     }
     Ok(())
 }

@@ -8,6 +8,8 @@ mod expansions;
 #[cfg(test)]
 mod files;
 #[cfg(test)]
+mod made_texts;
+#[cfg(test)]
 mod notations;
 #[cfg(test)]
 mod ports;

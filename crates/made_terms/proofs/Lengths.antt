@@ -28,5 +28,5 @@ list_length number (suc count) =
 pub text_fits : (count : ℕ) → count ≤ 1000000 → length (made_text count) ≤ 2 ^ 24
 text_fits count few =
     let list = list_length count count in
-    let behind = length-append (list_text (numbers_after count count)) (codes "))." ) in
+    let behind = length-append (list_text (numbers_after count count)) (codes ")).") in
     omega (arith, few, list, behind)
