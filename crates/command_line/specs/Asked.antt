@@ -68,7 +68,8 @@ pub record IsTask (parts : List Part) (task : Task) : Type 0 where
 
 -- the words ask for this task, with this file of definitions and, perhaps, this one with terms and this
 -- name of watches
-pub record Asks (words : List (List ℕ)) (task : Task) (file : List ℕ) (terms watch : Option (List ℕ)) : Type 0 where
+pub record Asks (words : List (List ℕ)) (task : Task) (file : List ℕ) (terms watch : Option (List ℕ))
+    : Type 0 where
   pub parts : List Part
   pub written : AreParts parts words
   pub asked : IsTask parts task
